@@ -1,0 +1,5 @@
+pub mod RdfOrders
+pub mod RowLaws
+pub mod Places
+mod Members
+mod PlaceLoops

@@ -1,0 +1,6 @@
+pub mod Refusals
+pub mod Terms
+pub mod Variables
+pub mod Triples
+pub mod Rows
+pub mod RowLaws
