@@ -1,0 +1,5 @@
+pub mod Areas
+pub mod Gathering
+pub mod Evaluation
+pub mod Solving
+pub mod Partners
