@@ -1,0 +1,5 @@
+mod LogLaws
+mod MemoryLaws
+mod OutcomeLaws
+mod ReplyLaws
+mod RunLaws

@@ -1,0 +1,5 @@
+pub mod Courses
+pub mod Replies
+pub mod Runs
+pub mod Outcomes
+pub mod Piles
