@@ -4,7 +4,7 @@ ghost use Rattle.order.specs.SetLaws.{SetLaws};
 use crate::total::TotalOrder;
 
 pub fn set_laws<T: TotalOrder>() -> u8
-    ensures { SetLaws compare }
+    ensures { SetLaws T.compare }
 {
     0
 }

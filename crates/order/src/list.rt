@@ -29,7 +29,7 @@ pub enum Insertion {
 fn rank<T: TotalOrder + Copy>(places: &[T], len: usize, x: &T) -> usize
     requires { len ≤ length places.now }
     ensures within { result ≤ len }
-    ensures place { Ascending compare (take len places.now) → result ≡ place compare x.now (take len places.now) }
+    ensures place { Ascending T.compare (take len places.now) → result ≡ place T.compare x.now (take len places.now) }
 {
     if len > 0 {
         if let Ordering::Less = places[len - 1].order(x) {
@@ -51,7 +51,7 @@ fn rank<T: TotalOrder + Copy>(places: &[T], len: usize, x: &T) -> usize
 // How many elements of a slice come before the first that is not below x.
 pub fn lower_bound<T: TotalOrder + Copy>(places: &[T], x: &T) -> usize
     ensures within { result ≤ length places.now }
-    ensures place { Ascending compare places.now → result ≡ place compare x.now places.now }
+    ensures place { Ascending T.compare places.now → result ≡ place T.compare x.now places.now }
 {
     rank(places, places.len(), x)
 }
@@ -61,7 +61,7 @@ fn position<T: TotalOrder + Copy>(places: &[T], len: usize, x: &T) -> (usize, bo
     requires { len ≤ length places.now }
     ensures within { result.0 ≤ len }
     ensures before { result.1 ≡ true → result.0 < len }
-    ensures located { Ascending compare (take len places.now) → Located compare x.now (take len places.now) result.0 result.1 }
+    ensures located { Ascending T.compare (take len places.now) → Located T.compare x.now (take len places.now) result.0 result.1 }
 {
     let at = rank(places, len, x);
     if at < len {
@@ -111,7 +111,7 @@ impl<'a, T: TotalOrder + Copy> OrderedList<'a, T> {
     // The empty list over the given places, which become blank.
     pub fn cleared(places: &'a mut [T], blank: T) -> OrderedList<'a, T>
         ensures same { result.places.ghost_name ≡ places.entry.ghost_name }
-        ensures ordered { Ordered compare result }
+        ensures ordered { Ordered T.compare result }
         ensures empty { elements result ≡ [] }
         ensures spare { spare result ≡ replicate (length places.old) blank }
     {
@@ -122,7 +122,7 @@ impl<'a, T: TotalOrder + Copy> OrderedList<'a, T> {
     // The empty list over the given places.
     pub fn over(places: &'a mut [T]) -> OrderedList<'a, T>
         ensures same { result.places.ghost_name ≡ places.entry.ghost_name }
-        ensures ordered { Ordered compare result }
+        ensures ordered { Ordered T.compare result }
         ensures empty { elements result ≡ [] }
         ensures spare { spare result ≡ places.old }
     {
@@ -132,7 +132,7 @@ impl<'a, T: TotalOrder + Copy> OrderedList<'a, T> {
     // The list of the first `len` elements of the given places, or of all where they are fewer.
     pub fn of_first(places: &'a mut [T], len: usize) -> OrderedList<'a, T>
         ensures same { result.places.ghost_name ≡ places.entry.ghost_name }
-        ensures ordered { Ascending compare (take len places.old) → Ordered compare result }
+        ensures ordered { Ascending T.compare (take len places.old) → Ordered T.compare result }
         ensures places { result.places.now ≡ places.old }
         ensures elements { elements result ≡ take len places.old }
         ensures spare { spare result ≡ drop len places.old }
@@ -180,29 +180,29 @@ impl<'a, T: TotalOrder + Copy> OrderedList<'a, T> {
     fn locate(&self, x: &T) -> (usize, bool)
         ensures within { result.0 ≤ length (elements self.now) }
         ensures before { result.1 ≡ true → result.0 < length (elements self.now) }
-        ensures located { Ordered compare self.now → Located compare x.now (elements self.now) result.0 result.1 }
+        ensures located { Ordered T.compare self.now → Located T.compare x.now (elements self.now) result.0 result.1 }
     {
         position(self.places, self.len(), x)
     }
 
     // Where x stands, counted from the least.
     pub fn find(&self, x: &T) -> Option<usize>
-        ensures { Ordered compare self.now → result ≡ (if holds compare x.now (elements self.now) then Some (place compare x.now (elements self.now)) else None) }
+        ensures { Ordered T.compare self.now → result ≡ (if holds T.compare x.now (elements self.now) then Some (place T.compare x.now (elements self.now)) else None) }
     {
         let (at, held) = self.locate(x);
         if held { Some(at) } else { None }
     }
 
     pub fn contains(&self, x: &T) -> bool
-        ensures { Ordered compare self.now → result ≡ holds compare x.now (elements self.now) }
+        ensures { Ordered T.compare self.now → result ≡ holds T.compare x.now (elements self.now) }
     {
         self.locate(x).1
     }
 
     // The least element above x.
     pub fn above(&self, x: &T) -> Option<T>
-        ensures value { Ordered compare self.now → result ≡ next compare x.now (elements self.now) }
-        ensures least { Ordered compare self.now → IsAbove compare x.now (elements self.now) result }
+        ensures value { Ordered T.compare self.now → result ≡ next T.compare x.now (elements self.now) }
+        ensures least { Ordered T.compare self.now → IsAbove T.compare x.now (elements self.now) result }
     {
         let (at, held) = self.locate(x);
         if held { self.get(at + 1) } else { self.get(at) }
@@ -212,9 +212,9 @@ impl<'a, T: TotalOrder + Copy> OrderedList<'a, T> {
     pub fn put(&mut self, x: T) -> Insertion
         ensures same { self.new.places.ghost_name ≡ self.old.places.ghost_name }
         ensures size { length self.new.places.now ≡ length self.old.places.now }
-        ensures ordered { Ordered compare self.old → Ordered compare self.new }
+        ensures ordered { Ordered T.compare self.old → Ordered T.compare self.new }
         ensures enters { Enters x self.old self.new result }
-        ensures puts { Ordered compare self.old → Puts compare x self.old self.new result }
+        ensures puts { Ordered T.compare self.old → Puts T.compare x self.old self.new result }
     {
         let (at, held) = self.locate(&x);
         if held {
@@ -233,9 +233,9 @@ impl<'a, T: TotalOrder + Copy> OrderedList<'a, T> {
     pub fn take_out(&mut self, x: &T, blank: T) -> bool
         ensures same { self.new.places.ghost_name ≡ self.old.places.ghost_name }
         ensures size { length self.new.places.now ≡ length self.old.places.now }
-        ensures ordered { Ordered compare self.old → Ordered compare self.new }
+        ensures ordered { Ordered T.compare self.old → Ordered T.compare self.new }
         ensures leaves { Leaves blank self.old self.new result }
-        ensures takes { Ordered compare self.old → TakesOut compare x.now blank self.old self.new result }
+        ensures takes { Ordered T.compare self.old → TakesOut T.compare x.now blank self.old self.new result }
     {
         let (at, held) = self.locate(x);
         if !held {

@@ -20,7 +20,7 @@ pub trait TotalOrder {
 
 // Two slices by the first place at which they differ; a slice comes after each of its fronts.
 pub fn lexical<T: TotalOrder>(xs: &[T], ys: &[T]) -> Ordering
-    ensures { result ≡ list_order compare xs.now ys.now }
+    ensures { result ≡ list_order T.compare xs.now ys.now }
 {
     for i in 0..xs.len() {
         if i >= ys.len() {

@@ -18,8 +18,8 @@ returns-in-Equal g c = record {
       (c.rank-at.ensures.place h, sym (here ∙ ap is_eq (sym c.order.ensures ∙ c.in-Equal.is)));
 }
 
-pub returns-in-default : goal.returns-in-default
-returns-in-default g c = record {
+pub returns-in_default : goal.returns-in_default
+returns-in_default g c = record {
   within = omega arith;
   before = λ e. absurd (false≢true e);
   located = λ h.
@@ -27,7 +27,7 @@ returns-in-default g c = record {
       holds_at_place g.met.T.TotalOrder.lawful c.args.places.now c.args.len c.rank-at.result c.args.x.now c.index-places-at.result
       c.requires h (c.rank-at.ensures.place h) c.if-at-len.true c.index-places-at.is
       in
-      (c.rank-at.ensures.place h, sym (here ∙ not_equal _ (λ e. c.in-default.not-Equal (c.order.ensures ∙ e))));
+      (c.rank-at.ensures.place h, sym (here ∙ not_equal _ (λ e. c.in_default.not-Equal (c.order.ensures ∙ e))));
 }
 
 pub returns-else-at-len : goal.returns-else-at-len

@@ -42,7 +42,7 @@ loop-low-preserved g c = (
       let before = c.loop-low.invariant.2 h in
       let upto =
       place_upto g.met.T.TotalOrder.lawful c.args.places.now c.args.len (c.loop-low.low + (c.loop-low.high - c.loop-low.low) / 2)
-      c.args.x.now c.index-places-mid.result c.requires (omega arith) c.index-places-mid.is (λ e. c.in-default-order.not-Less (c.order-in-loop-low.ensures ∙ e))
+      c.args.x.now c.index-places-mid.result c.requires (omega arith) c.index-places-mid.is (λ e. c.in_default-order.not-Less (c.order-in-loop-low.ensures ∙ e))
       in
       (omega arith, omega arith),
 )

@@ -6,8 +6,8 @@ use Rattle.order.proofs.Ranks.{above_after, above_at}
 use Rattle.order.proofs.Parts.{parts_all}
 use Rattle.order.proofs.list.OrderedList.above.Goals as goal
 
-pub overflow-add-at : goal.overflow-add-at
-overflow-add-at g c =
+pub overflow_add-at : goal.overflow_add-at
+overflow_add-at g c =
     let before = c.locate-at.ensures.before c.if-held.true in
     omega (arith, parts_all c.args.self.now.places.now c.args.self.now.len)
 

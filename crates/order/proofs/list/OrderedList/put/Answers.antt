@@ -28,7 +28,7 @@ returns g c =
     let n = c.args.self.now.len in
     let at = c.locate-at.result.0 in
     let all = parts_all p n in
-    let after = entering p c.insert-at.new.places n c.len-len.result at c.args.x c.len-len.ensures.count (omega arith) c.insert-at.ensures in
+    let after = entering p c.insert_at.new.places n c.len-len.result at c.args.x c.len-len.ensures.count (omega arith) c.insert_at.ensures in
     let absent = λ (h : Ascending g.T.TotalOrder.compare (take n p)). sym (c.locate-at.ensures.located h).1 ∙ c.if-held.false in
     let elements = λ (h : Ascending g.T.TotalOrder.compare (take n p)). after.0 ∙ inserting laws (take n p) at c.args.x (c.locate-at.ensures.located h).0 (absent h) in
     record {

@@ -16,7 +16,7 @@ returns g c =
     let n = c.args.self.now.len in
     let at = c.locate-at.result.0 in
     let before = c.locate-at.ensures.before c.if-not-held.false in
-    let after = leaving p c.remove-at.new.places n c.len-len.result at c.args.blank c.len-len.ensures.count (omega arith) c.remove-at.ensures in
+    let after = leaving p c.remove_at.new.places n c.len-len.result at c.args.blank c.len-len.ensures.count (omega arith) c.remove_at.ensures in
     let held = λ (h : Ascending g.T.TotalOrder.compare (take n p)). sym (c.locate-at.ensures.located h).1 ∙ c.if-not-held.false in
     let elements = λ (h : Ascending g.T.TotalOrder.compare (take n p)). after.0 ∙ removing laws (take n p) at c.args.x.now h (c.locate-at.ensures.located h).0 (held h) in
     record {

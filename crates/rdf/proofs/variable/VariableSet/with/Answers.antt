@@ -7,10 +7,10 @@ use Rattle.rdf.specs.Variables.{bit}
 use Rattle.rdf.proofs.Members.{bit_more}
 use Rattle.rdf.proofs.variable.VariableSet.with.Goals as goal
 
-pub returns-then-is-in-range : goal.returns-then-is-in-range
-returns-then-is-in-range c = λ w.
+pub returns-then-is_in_range : goal.returns-then-is_in_range
+returns-then-is_in_range c = λ w.
     let n = c.args.self.0 in
     let v = c.args.variable.0 in
-    let small : v ≤ 15 = leb-true v 15 (sym c.if-is-in-range.ensures) in
+    let small : v ≤ 15 = leb-true v 15 (sym c.if-is_in_range.ensures) in
     ap (λ p. bit (bit_or n p) w.0) (one_shl v 16 (omega arith))
-    ∙ bit_more n v w.0 ∙ ap (λ b. (b && eqb w.0 v) || bit n w.0) c.if-is-in-range.ensures
+    ∙ bit_more n v w.0 ∙ ap (λ b. (b && eqb w.0 v) || bit n w.0) c.if-is_in_range.ensures
