@@ -1,4 +1,6 @@
 // Puts a query to a graph, in memory that the caller lends.
+#![tactic(auto)]
+
 mod areas;
 mod conditions;
 mod context;

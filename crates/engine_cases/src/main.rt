@@ -1,5 +1,7 @@
 // Questions put to small graphs, every set worked out whole. Each line is a case: the answer, the solutions, and a sum over each memory,
 // which was used before. Most are about reels 17 and 21, with their weights (predicate 1) and a unit (predicate 5), grams per square metre.
+#![tactic(auto)]
+
 mod asking;
 mod graphs;
 mod refusals;

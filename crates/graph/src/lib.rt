@@ -1,4 +1,6 @@
 // Graphs of RDF triples: what every kind of graph means, the kinds, and reading a whole graph into lent memory.
+#![tactic(auto)]
+
 pub mod editable_graph;
 pub mod graph;
 pub mod overlay;

@@ -1,4 +1,6 @@
 // Graphs of every kind laid over one another. Each step prints what the call answers: nothing, or the number of the refusal.
+#![tactic(auto)]
+
 mod histories;
 mod single;
 

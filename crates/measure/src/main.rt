@@ -1,6 +1,8 @@
 // Measures loading, reading and three bottom-up questions on graphs of reels and readings. Without an argument it prints what is
 // answered for a small graph; with any argument, also the times for graphs of 1,000, 10,000 and
 // 100,000 triples, and for filling and reading in no order.
+#![tactic(auto)]
+
 mod mill;
 
 use engine::question::bottom_up;

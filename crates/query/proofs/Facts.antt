@@ -3,7 +3,9 @@ use Rattle.std.proofs.Common.{◌≡◌, ℕ, zero, suc, ◌+◌, ◌<◌, ◌�
 use Rattle.std.proofs.lemmas.List.{get_or_default}
 use Rattle.std.proofs.lemmas.List.Sums.{sum_by_more}
 use Rattle.std.proofs.lemmas.Bool.{and_parts, cases_eq, ltb-true, lt-ltb}
+use denote.Enum.Bare.{sameb}
 use Rattle.order.proofs.Every.{every_weaker}
+use Rattle.query.specs.contracts.table.Kind.{the_type}
 use Rattle.query.specs.declared.table.Entry.{Entry}
 use Rattle.query.specs.declared.table.Entry.TheVariants.{Initial}
 use Rattle.query.specs.declared.table.Kind.{Kind}
@@ -38,18 +40,14 @@ names_earlier_at es i d in' h =
     rw same at (every_from_at names_below 0 es i d in' h)
 
 -- what `==` on kinds tells
-pub same_kind_when : (x y : Kind) (r : Bool) → cond r (x ≡ y) (x ≡ y → ⊥) → r ≡ same_kind x y
-same_kind_when Pattern Pattern true h = refl
-same_kind_when Pattern Pattern false h = absurd (h refl)
-same_kind_when Condition Condition true h = refl
-same_kind_when Condition Condition false h = absurd (h refl)
-same_kind_when Pattern Condition true h = cc
-same_kind_when Pattern Condition false h = refl
-same_kind_when Condition Pattern true h = cc
-same_kind_when Condition Pattern false h = refl
+pub same_kind_when : (x y : Kind) (r : Bool) → r ≡ sameb the_type x y → r ≡ same_kind x y
+same_kind_when Pattern Pattern r h = h
+same_kind_when Condition Condition r h = h
+same_kind_when Pattern Condition r h = h
+same_kind_when Condition Pattern r h = h
 
 -- the same where one kind is that of an entry that was read
-pub is_kind : (es : List Entry) (n : ℕ) (d : Entry) (k due : Kind) (r : Bool) → n < length es → k ≡ kind_of (get_or es n d) → cond r (k ≡ due) (k ≡ due → ⊥) → r ≡ same_kind (kind_at es n) due
+pub is_kind : (es : List Entry) (n : ℕ) (d : Entry) (k due : Kind) (r : Bool) → n < length es → k ≡ kind_of (get_or es n d) → r ≡ sameb the_type k due → r ≡ same_kind (kind_at es n) due
 is_kind es n d k due r in' read h = same_kind_when k due r h ∙ ap (λ x. same_kind x due) (read ∙ ap kind_of (get_or_default es n d Initial in'))
 
 -- one entry more in the count of who names n

@@ -1,4 +1,6 @@
 // RDF terms, variables, triples and rows, their orders, and the refusals with their numbers.
+#![tactic(auto)]
+
 pub mod laws;
 pub mod refusal;
 pub mod row;

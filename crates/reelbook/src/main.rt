@@ -2,6 +2,8 @@
 // keeps the triples as far as there are places. The laboratory lays its corrections over them and leaves the book as it is. What is known
 // in the end is that, joined with the list that the winder hands over. The program prints what came of each step, each set, and which reels
 // lack a reading, before and after the corrections. At the end books of other makes, which came about in other ways, are asked the same.
+#![tactic(auto)]
+
 mod agreement;
 mod calls;
 mod layers;

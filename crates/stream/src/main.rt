@@ -1,5 +1,7 @@
 // Reads a stream of cases from standard input, each a graph and questions to it, and prints the answers. Where the stream is not of this
 // form, the message says where, after the answers to what came before.
+#![tactic(auto)]
+
 mod answers;
 mod case;
 mod fault;

@@ -17,12 +17,12 @@ returns-in-Equal g c =
     let told = found_above triple_laws (just_before t) t (nothing_between t some) _ _ (g.G.Graph.lawful c.args.graph.now).ascending c.in-Some.ensures in
     ap is_eq c.in-Equal.ensures ∙ told
 
-pub returns-in-default : goal.returns-in-default
-returns-in-default g c =
+pub returns-in_default : goal.returns-in_default
+returns-in_default g c =
     let t = c.args.triple in
     let some : 0 < t.object.0 = omega (arith, c.if-object-eq0.false) in
     let told = found_above triple_laws (just_before t) t (nothing_between t some) _ _ (g.G.Graph.lawful c.args.graph.now).ascending c.in-Some.ensures in
-    sym (not_equal c.order.result c.in-default.not-Equal) ∙ ap is_eq c.order.ensures ∙ told
+    sym (not_equal c.order.result c.in_default.not-Equal) ∙ ap is_eq c.order.ensures ∙ told
 
 pub returns-in-None : goal.returns-in-None
 returns-in-None g c =

@@ -49,10 +49,10 @@ returns g c =
     let s = g.G.Graph.triples graph in
     let law = g.G.Graph.lawful graph in
     let size = c.fill.ensures.len in
-    let all = all_read s law _ _ _ _ c.loop-triple.invariant c.in-default.ensures in
-    let small : leb (length s) (length c.args.memory.now) ≡ true = subst (λ n. leb (length s) n ≡ true) size (fits_in s law _ _ _ _ c.loop-triple.invariant c.in-default.ensures) in
+    let all = all_read s law _ _ _ _ c.loop-triple.invariant c.in_default.ensures in
+    let small : leb (length s) (length c.args.memory.now) ≡ true = subst (λ n. leb (length s) n ≡ true) size (fits_in s law _ _ _ _ c.loop-triple.invariant c.in_default.ensures) in
     record {
       count = rw (small, all);
       numbered = rw small;
-      memory = read_memory s law _ _ _ _ c.loop-triple.invariant c.in-default.ensures ∙ ap (read_places s) size;
+      memory = read_memory s law _ _ _ _ c.loop-triple.invariant c.in_default.ensures ∙ ap (read_places s) size;
     }

@@ -5,13 +5,13 @@ use Rattle.query.specs.Rules.{named_once, times_named}
 use Rattle.query.proofs.Loops.{every_below_fails, every_below_more}
 use Rattle.query.proofs.shape.is_tree.Goals as goal
 
-pub returns-then-times-named-ne1 : goal.returns-then-times-named-ne1
-returns-then-times-named-ne1 c =
+pub returns-then-times_named-ne1 : goal.returns-then-times_named-ne1
+returns-then-times_named-ne1 c =
     let es = c.args.entries.now in
-    every_below_fails (named_once es) (length es - 1) c.loop-number.number (omega arith) (ne_eqb (times_named es c.loop-number.number) 1 (λ once. c.if-times-named-ne1.true (c.times-named.ensures ∙ once)))
+    every_below_fails (named_once es) (length es - 1) c.loop-number.number (omega arith) (ne_eqb (times_named es c.loop-number.number) 1 (λ once. c.if-times_named-ne1.true (c.times_named.ensures ∙ once)))
 
 pub loop-number-preserved : goal.loop-number-preserved
-loop-number-preserved c = every_below_more (named_once c.args.entries.now) c.loop-number.number (eq-eqb (times_named c.args.entries.now c.loop-number.number) 1 (sym c.times-named.ensures ∙ c.if-times-named-ne1.false)) c.loop-number.invariant
+loop-number-preserved c = every_below_more (named_once c.args.entries.now) c.loop-number.number (eq-eqb (times_named c.args.entries.now c.loop-number.number) 1 (sym c.times_named.ensures ∙ c.if-times_named-ne1.false)) c.loop-number.invariant
 
 pub returns : goal.returns
 returns c =

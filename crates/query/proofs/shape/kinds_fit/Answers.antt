@@ -7,15 +7,15 @@ use Rattle.query.specs.Rules.{names_due}
 use Rattle.query.proofs.Facts.{is_kind, names_below_more, names_earlier_at}
 use Rattle.query.proofs.shape.kinds_fit.Goals as goal
 
-pub names-due-requires : goal.names-due-requires
-names-due-requires c = names_below_more _ c.loop-entry.entry-index _ (omega arith) (names_earlier_at c.args.entries.now _ _ c.loop-entry-test.true c.requires.earlier)
+pub names_due-requires : goal.names_due-requires
+names_due-requires c = names_below_more _ c.loop-entry.entry-index _ (omega arith) (names_earlier_at c.args.entries.now _ _ c.loop-entry-test.true c.requires.earlier)
 
-pub returns-then-not-names-due : goal.returns-then-not-names-due
-returns-then-not-names-due c =
-    sym (and_left _ _ (sym (every_fails (names_due c.args.entries.now) c.args.entries.now _ _ c.loop-entry-test.true (sym c.if-not-names-due.ensures) c.loop-entry.invariant)))
+pub returns-then-not-names_due : goal.returns-then-not-names_due
+returns-then-not-names_due c =
+    sym (and_left _ _ (sym (every_fails (names_due c.args.entries.now) c.args.entries.now _ _ c.loop-entry-test.true (sym c.if-not-names_due.ensures) c.loop-entry.invariant)))
 
 pub loop-entry-preserved : goal.loop-entry-preserved
-loop-entry-preserved c = every_more (names_due c.args.entries.now) c.args.entries.now _ _ c.loop-entry-test.true (sym c.if-not-names-due.ensures) c.loop-entry.invariant
+loop-entry-preserved c = every_more (names_due c.args.entries.now) c.args.entries.now _ _ c.loop-entry-test.true (sym c.if-not-names_due.ensures) c.loop-entry.invariant
 
 pub returns : goal.returns
 returns c =

@@ -6,5 +6,5 @@ use Rattle.query.proofs.validation.check.Goals as goal
 
 pub returns : goal.returns
 returns c =
-    let none : first_refusal c.args.query.now.entries.now c.args.query.now.values.now c.args.start.now c.args.row-places ≡ None = search rules in
+    let none : first_refusal c.args.query.now.entries.now c.args.query.now.values.now c.args.start.now c.args.row_places ≡ None = search rules in
     record { answers = search rules; accepted = passed _ _ _ _ none }

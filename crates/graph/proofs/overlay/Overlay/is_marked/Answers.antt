@@ -15,7 +15,7 @@ loop-i-preserved g c =
     let i = c.loop-i.i in
     let inside : self.count ≤ length self.marks = omega (arith, self.whole, self.few) in
     let here = rest_more self.marks self.count i no_triple c.loop-i-test.true inside in
-    let differs = sym (ap is_eq c.order.ensures) ∙ not_equal c.order.result c.in-default.not-Equal in
+    let differs = sym (ap is_eq c.order.ensures) ∙ not_equal c.order.result c.in_default.not-Equal in
     sym (ap (holds compare_triples t) here ∙ ap (λ b. b || holds compare_triples t (drop (i + 1) (take self.count self.marks))) differs) ∙ c.loop-i.invariant
 
 pub returns-in-Equal : goal.returns-in-Equal

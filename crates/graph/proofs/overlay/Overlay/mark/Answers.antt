@@ -9,31 +9,22 @@ use Rattle.rdf.specs.RdfOrders.{triple_laws}
 use Rattle.rdf.specs.Triples.{compare_triples, is_triple}
 use Rattle.graph.proofs.overlay.Overlay.mark.Goals as goal
 
-pub invariant-of-self : goal.invariant-of-self
-invariant-of-self g c =
+pub invariant_of-self : goal.invariant_of-self
+invariant_of-self g c =
     let self = c.args.self.now in
     let t = c.args.triple in
     let m = c.put-made.new.self in
-    let start = c.of-first-list.ensures in
+    let start = c.of_first-list.ensures in
     let long : length m.places.now ≡ 32 = c.put-made.ensures.size ∙ ap length start.places ∙ self.whole in
     let room : self.count < length self.marks = omega (arith, self.whole, c.requires.fits) in
-    let marks = put_first compare_triples t c.of-first-list.result m self.marks self.count c.len-self.result start.elements c.len-self.ensures.count c.put-made.result start.spare room c.requires.unmarked (c.put-made.ensures.puts (start.ordered self.ordered)) in (
-      long,
-      (
-        omega (arith, c.len-self.ensures.within),
-        (
-          subst (Ascending compare_triples) (sym marks) (ascending_insert triple_laws t _ self.ordered),
-          (subst (λ s. every is_triple s ≡ true) (sym marks) (every_insert triple_laws is_triple t _ c.requires.valid self.members), tt),
-        ),
-      ),
-    )
+    let marks = put_first compare_triples t c.of_first-list.result m self.marks self.count c.len-self.result start.elements c.len-self.ensures.count c.put-made.result start.spare room c.requires.unmarked (c.put-made.ensures.puts (start.ordered self.ordered)) in record { whole = long; few = omega (arith, c.len-self.ensures.within); ordered = subst (Ascending compare_triples) (sym marks) (ascending_insert triple_laws t _ self.ordered); members = subst (λ s. every is_triple s ≡ true) (sym marks) (every_insert triple_laws is_triple t _ c.requires.valid self.members) }
 
 pub returns : goal.returns
 returns g c =
     let self = c.args.self.now in
-    let start = c.of-first-list.ensures in
+    let start = c.of_first-list.ensures in
     let room : self.count < length self.marks = omega (arith, self.whole, c.requires.fits) in
     record {
       base = refl;
-      marks = put_first compare_triples c.args.triple c.of-first-list.result c.put-made.new.self self.marks self.count c.len-self.result start.elements c.len-self.ensures.count c.put-made.result start.spare room c.requires.unmarked (c.put-made.ensures.puts (start.ordered self.ordered));
+      marks = put_first compare_triples c.args.triple c.of_first-list.result c.put-made.new.self self.marks self.count c.len-self.result start.elements c.len-self.ensures.count c.put-made.result start.spare room c.requires.unmarked (c.put-made.ensures.puts (start.ordered self.ordered));
     }

@@ -9,7 +9,7 @@ use Rattle.order.proofs.Nexts.{above_difference_below, above_difference_out, abo
 use Rattle.rdf.specs.RdfOrders.{triple_laws}
 use Rattle.rdf.specs.Triples.{compare_triples, no_triple}
 use Rattle.graph.proofs.overlay.Overlay.next_new.Goals as goal
-use Rattle.graph.proofs.overlay.Overlay.next_new.Goals.{in-Less+else-not-contains, in-default}
+use Rattle.graph.proofs.overlay.Overlay.next_new.Goals.{in-Less+else-not-contains, in_default}
 
 pub loop-i-preserved : goal.loop-i-preserved
 loop-i-preserved g c =
@@ -22,7 +22,7 @@ loop-i-preserved g c =
     let so_far = sym (ap (λ l. above compare_triples a (difference compare_triples l base)) (rest_more self.marks self.count i no_triple c.loop-i-test.true inside)) ∙ c.loop-i.invariant in
     elim c.match-order.branch [
       | in-Less+else-not-contains w ↦ sym (above_difference_out triple_laws a _ rest base (sym w.if-not-contains.ensures)) ∙ so_far
-      | in-default w ↦ sym (above_difference_below triple_laws a _ rest base (sym (ap is_lt c.order.ensures) ∙ not_less c.order.result w.in-default.not-Less)) ∙ so_far
+      | in_default w ↦ sym (above_difference_below triple_laws a _ rest base (sym (ap is_lt c.order.ensures) ∙ not_less c.order.result w.in_default.not-Less)) ∙ so_far
     ]
 
 pub returns-then-not-contains : goal.returns-then-not-contains

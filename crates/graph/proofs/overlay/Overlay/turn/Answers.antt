@@ -8,11 +8,11 @@ use Rattle.rdf.specs.Triples.{compare_triples}
 use Rattle.graph.specs.Makes.{no_mark, unused}
 use Rattle.graph.proofs.overlay.Overlay.turn.Goals as goal
 
-pub returns-then-is-marked : goal.returns-then-is-marked
-returns-then-is-marked g c =
+pub returns-then-is_marked : goal.returns-then-is_marked
+returns-then-is_marked g c =
     let self = c.args.self.now in
     let marks = take self.count self.marks in
-    let held = sym c.if-is-marked.ensures in
+    let held = sym c.if-is_marked.ensures in
     let place : no_mark marks c.args.triple ≡ false = ap (λ b. eqb (unused marks) 0 && not b) held ∙ and-false (eqb (unused marks) 0) in
     record {
       answer = sym (cond-false (no_mark marks c.args.triple) _ _ place);
@@ -28,7 +28,7 @@ returns-then-full g c =
     let inside : self.count ≤ length self.marks = omega (arith, self.whole, self.few) in
     let long : length marks ≡ self.count = length-take-le self.count self.marks inside in
     let used : eqb (unused marks) 0 ≡ true = eq-eqb (unused marks) 0 (omega (arith, c.if-full.true)) in
-    let none : no_mark marks c.args.triple ≡ true = ap (λ b. eqb (unused marks) 0 && not b) (sym c.if-is-marked.ensures) ∙ ap (λ b. b && true) used in
+    let none : no_mark marks c.args.triple ≡ true = ap (λ b. eqb (unused marks) 0 && not b) (sym c.if-is_marked.ensures) ∙ ap (λ b. b && true) used in
     record { answer = sym (cond-true (no_mark marks c.args.triple) _ _ none); base = refl; marks = refl; kept = λ _. refl }
 
 pub returns : goal.returns
@@ -42,6 +42,6 @@ returns g c =
     record {
       answer = sym (cond-false (no_mark marks c.args.triple) _ _ place);
       base = c.mark.ensures.base;
-      marks = c.mark.ensures.marks ∙ sym (cond-false _ _ _ (sym c.if-is-marked.ensures));
+      marks = c.mark.ensures.marks ∙ sym (cond-false _ _ _ (sym c.if-is_marked.ensures));
       kept = λ e. absurd (true≢false e);
     }

@@ -9,29 +9,20 @@ use Rattle.rdf.specs.RdfOrders.{triple_laws}
 use Rattle.rdf.specs.Triples.{compare_triples, is_triple, no_triple}
 use Rattle.graph.proofs.overlay.Overlay.unmark.Goals as goal
 
-pub invariant-of-self : goal.invariant-of-self
-invariant-of-self g c =
+pub invariant_of-self : goal.invariant_of-self
+invariant_of-self g c =
     let self = c.args.self.now in
     let t = c.args.triple in
-    let m = c.take-out-taken.new.self in
-    let start = c.of-first-list.ensures in
-    let long : length m.places.now ≡ 32 = c.take-out-taken.ensures.size ∙ ap length start.places ∙ self.whole in
-    let marks = take_out_first compare_triples t c.of-first-list.result m self.marks self.count c.len-self.result start.elements c.len-self.ensures.count no_triple c.take-out-taken.result c.requires (c.take-out-taken.ensures.takes (start.ordered self.ordered)) in (
-      long,
-      (
-        omega (arith, c.len-self.ensures.within),
-        (
-          subst (Ascending compare_triples) (sym marks) (ascending_without triple_laws t _ self.ordered),
-          (subst (λ s. every is_triple s ≡ true) (sym marks) (every_without triple_laws is_triple t _ self.members), tt),
-        ),
-      ),
-    )
+    let m = c.take_out-taken.new.self in
+    let start = c.of_first-list.ensures in
+    let long : length m.places.now ≡ 32 = c.take_out-taken.ensures.size ∙ ap length start.places ∙ self.whole in
+    let marks = take_out_first compare_triples t c.of_first-list.result m self.marks self.count c.len-self.result start.elements c.len-self.ensures.count no_triple c.take_out-taken.result c.requires (c.take_out-taken.ensures.takes (start.ordered self.ordered)) in record { whole = long; few = omega (arith, c.len-self.ensures.within); ordered = subst (Ascending compare_triples) (sym marks) (ascending_without triple_laws t _ self.ordered); members = subst (λ s. every is_triple s ≡ true) (sym marks) (every_without triple_laws is_triple t _ self.members) }
 
 pub returns : goal.returns
 returns g c =
     let self = c.args.self.now in
-    let start = c.of-first-list.ensures in
+    let start = c.of_first-list.ensures in
     record {
       base = refl;
-      marks = take_out_first compare_triples c.args.triple c.of-first-list.result c.take-out-taken.new.self self.marks self.count c.len-self.result start.elements c.len-self.ensures.count no_triple c.take-out-taken.result c.requires (c.take-out-taken.ensures.takes (start.ordered self.ordered));
+      marks = take_out_first compare_triples c.args.triple c.of_first-list.result c.take_out-taken.new.self self.marks self.count c.len-self.result start.elements c.len-self.ensures.count no_triple c.take_out-taken.result c.requires (c.take_out-taken.ensures.takes (start.ordered self.ordered));
     }

@@ -11,12 +11,12 @@ use Rattle.graph.proofs.AppliedLaws.{not_a_triple, no_effect}
 use Rattle.graph.proofs.OverlayLaws.{effect_alters, turned_applied, unused_full}
 use Rattle.graph.proofs.overlay.OverlayEditableGraph.add.Goals as goal
 
-pub returns-then-not-is-triple : goal.returns-then-not-is-triple
-returns-then-not-is-triple g c =
+pub returns-then-not-is_triple : goal.returns-then-not-is_triple
+returns-then-not-is_triple g c =
     let self = c.args.self.now in
     let marks = take self.count self.marks in
     let set = symmetric_difference compare_triples marks (g.G.Graph.triples self.base) in
-    record { applied = not_a_triple (adding c.args.triple) (no_mark marks c.args.triple) set (unused marks) (unused_full marks c.args.triple) (sym c.if-not-is-triple.ensures); make = refl; framed = refl; kept = λ _. refl; marks = refl }
+    record { applied = not_a_triple (adding c.args.triple) (no_mark marks c.args.triple) set (unused marks) (unused_full marks c.args.triple) (sym c.if-not-is_triple.ensures); make = refl; framed = refl; kept = λ _. refl; marks = refl }
 
 pub returns-then-contains : goal.returns-then-contains
 returns-then-contains g c =
@@ -28,7 +28,7 @@ returns-then-contains g c =
     let none : has_effect change set ≡ false = ap not (sym c.if-contains.ensures) in
     let lawful = overlay_lawful marks base (record { ascending = self.ordered; members = self.members }) (g.G.Graph.lawful self.base) in
     record {
-      applied = no_effect change (no_mark marks c.args.triple) set (unused marks) (unused_full marks c.args.triple) (sym c.if-not-is-triple.ensures) none lawful;
+      applied = no_effect change (no_mark marks c.args.triple) set (unused marks) (unused_full marks c.args.triple) (sym c.if-not-is_triple.ensures) none lawful;
       make = refl;
       framed = refl;
       kept = λ _. refl;
@@ -46,7 +46,7 @@ returns g c =
     let change = adding c.args.triple in
     let some : has_effect change set ≡ true = ap not (sym c.if-contains.ensures) in
     let beneath = c.turn.ensures.base in
-    let done = turned_applied change marks after base c.turn.result (g.G.Graph.lawful self.base) (sym c.if-not-is-triple.ensures) some c.turn.ensures.answer c.turn.ensures.marks in
+    let done = turned_applied change marks after base c.turn.result (g.G.Graph.lawful self.base) (sym c.if-not-is_triple.ensures) some c.turn.ensures.answer c.turn.ensures.marks in
     let told = effect_alters change c.turn.result set some in
     record {
       applied = subst (λ b. Applied change (no_mark marks c.args.triple) set (symmetric_difference compare_triples after (g.G.Graph.triples b)) (unused marks) (unused after) c.turn.result) (sym beneath) done;

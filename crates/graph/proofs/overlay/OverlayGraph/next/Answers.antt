@@ -12,8 +12,8 @@ returns g c =
     let self = c.args.self.now in
     let marks = take self.count self.marks in
     let base = g.G.Graph.triples self.base in
-    c.lesser-of.ensures
-    ∙ ap₂ (lesser compare_triples) c.next-new.ensures c.next-kept.ensures
+    c.lesser_of.ensures
+    ∙ ap₂ (lesser compare_triples) c.next_new.ensures c.next_kept.ensures
     ∙ sym (above_insert_all triple_laws c.args.after (difference compare_triples marks base) (difference compare_triples base marks)
     (ascending_difference triple_laws marks base self.ordered)
     (ascending_difference triple_laws base marks (g.G.Graph.lawful self.base).ascending))

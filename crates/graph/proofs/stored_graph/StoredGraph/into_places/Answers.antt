@@ -6,4 +6,4 @@ use Rattle.graph.proofs.stored_graph.StoredGraph.into_places.Goals as goal
 pub returns : goal.returns
 returns c =
     let self = c.args.self in
-    record { same = c.into-places.ensures.same; places = c.into-places.ensures.value ∙ placed self.list _ _ self.zeros refl refl }
+    record { same = c.into_places.ensures.same; places = c.into_places.ensures.value ∙ placed self.list _ _ self.zeros refl refl }

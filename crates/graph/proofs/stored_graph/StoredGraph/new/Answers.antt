@@ -7,13 +7,10 @@ use Rattle.rdf.specs.Triples.{is_triple, no_triple}
 use Rattle.graph.specs.Makes.{stored}
 use Rattle.graph.proofs.stored_graph.StoredGraph.new.Goals as goal
 
-pub invariant-of-result : goal.invariant-of-result
-invariant-of-result c =
+pub invariant_of-result : goal.invariant_of-result
+invariant_of-result c =
     let told = c.cleared.ensures in
-    let long = ap length told.spare ∙ length-replicate (length c.args.places.now) no_triple in (
-      told.ordered,
-      (subst (λ s. every is_triple s ≡ true) (sym told.empty) refl, (told.spare ∙ ap (λ n. replicate n no_triple) (sym long), tt)),
-    )
+    let long = ap length told.spare ∙ length-replicate (length c.args.places.now) no_triple in record { ordered = told.ordered; members = subst (λ s. every is_triple s ≡ true) (sym told.empty) refl; zeros = told.spare ∙ ap (λ n. replicate n no_triple) (sym long) }
 
 pub returns : goal.returns
 returns c =

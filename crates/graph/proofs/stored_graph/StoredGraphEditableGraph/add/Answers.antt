@@ -13,12 +13,12 @@ use Rattle.graph.proofs.AppliedLaws.{not_a_triple, no_effect, no_place, carried_
 use Rattle.graph.proofs.StoreLaws.{placed}
 use Rattle.graph.proofs.stored_graph.StoredGraphEditableGraph.add.Goals as goal
 
-pub returns-then-not-is-triple : goal.returns-then-not-is-triple
-returns-then-not-is-triple c =
+pub returns-then-not-is_triple : goal.returns-then-not-is_triple
+returns-then-not-is_triple c =
     let self = c.args.self.now in
     let change = adding c.args.triple in
     let free = length self.list.places.now - length (elements self.list) in
-    let done = not_a_triple change (no_room free change) (elements self.list) free (eqb-true free 0) (sym c.if-not-is-triple.ensures) in
+    let done = not_a_triple change (no_room free change) (elements self.list) free (eqb-true free 0) (sym c.if-not-is_triple.ensures) in
     record { applied = done; make = refl; framed = (refl, refl); kept = λ _. refl; same = refl; places = placed self.list _ _ self.zeros done.set refl }
 
 pub returns-then-contains : goal.returns-then-contains
@@ -27,7 +27,7 @@ returns-then-contains c =
     let change = adding c.args.triple in
     let free = length self.list.places.now - length (elements self.list) in
     let none : has_effect change (elements self.list) ≡ false = ap not (sym (c.if-contains.ensures self.ordered)) in
-    let done = no_effect change (no_room free change) (elements self.list) free (eqb-true free 0) (sym c.if-not-is-triple.ensures) none (record { ascending = self.ordered; members = self.members }) in
+    let done = no_effect change (no_room free change) (elements self.list) free (eqb-true free 0) (sym c.if-not-is_triple.ensures) none (record { ascending = self.ordered; members = self.members }) in
     record { applied = done; make = refl; framed = (refl, refl); kept = λ _. refl; same = refl; places = placed self.list _ _ self.zeros done.set refl }
 
 pub returns-then-free-eq0 : goal.returns-then-free-eq0
@@ -37,18 +37,15 @@ returns-then-free-eq0 c =
     let free = length self.list.places.now - length (elements self.list) in
     let some : has_effect change (elements self.list) ≡ true = ap not (sym (c.if-contains.ensures self.ordered)) in
     let taken : no_room free change ≡ true = eq-eqb free 0 (sym c.free.ensures ∙ c.if-free-eq0.true) in
-    let done = no_place change (no_room free change) (elements self.list) free (eqb-true free 0) (sym c.if-not-is-triple.ensures) some taken in
+    let done = no_place change (no_room free change) (elements self.list) free (eqb-true free 0) (sym c.if-not-is_triple.ensures) some taken in
     record { applied = done; make = refl; framed = (refl, refl); kept = λ _. refl; same = refl; places = placed self.list _ _ self.zeros done.set refl }
 
-pub invariant-of-self : goal.invariant-of-self
-invariant-of-self c =
+pub invariant_of-self : goal.invariant_of-self
+invariant_of-self c =
     let self = c.args.self.now in
     let room : 0 < length (spare self.list) = omega (arith, c.free.ensures, c.if-free-eq0.false, free_places self.list) in
     let made = put_in compare_triples c.args.triple self.list c.put-made.new.self c.put-made.result (sym (c.if-contains.ensures self.ordered)) room (c.put-made.ensures.puts self.ordered) in
-    let members = every_insert triple_laws is_triple c.args.triple (elements self.list) (sym c.if-not-is-triple.ensures) self.members in (
-      c.put-made.ensures.ordered self.ordered,
-      (subst (λ s. every is_triple s ≡ true) (sym made.0) members, (fewer_blank no_triple (spare self.list) _ made.1 self.zeros, tt)),
-    )
+    let members = every_insert triple_laws is_triple c.args.triple (elements self.list) (sym c.if-not-is_triple.ensures) self.members in record { ordered = c.put-made.ensures.ordered self.ordered; members = subst (λ s. every is_triple s ≡ true) (sym made.0) members; zeros = fewer_blank no_triple (spare self.list) _ made.1 self.zeros }
 
 pub returns : goal.returns
 returns c =
@@ -63,7 +60,7 @@ returns c =
     let size = c.put-made.ensures.size in
     let zeros = fewer_blank no_triple (spare self.list) _ made.1 self.zeros in
     record {
-      applied = carried_out change (no_room free change) (elements self.list) free (eqb-true free 0) (elements end) _ (sym c.if-not-is-triple.ensures) (ap not absent) left made.0;
+      applied = carried_out change (no_room free change) (elements self.list) free (eqb-true free 0) (elements end) _ (sym c.if-not-is_triple.ensures) (ap not absent) left made.0;
       make = ap stored size;
       framed = (c.put-made.ensures.same, size);
       kept = λ none. absurd (both_ways _ none (ap not absent));

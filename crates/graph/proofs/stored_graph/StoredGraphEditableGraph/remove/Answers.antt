@@ -13,12 +13,12 @@ use Rattle.graph.proofs.AppliedLaws.{not_a_triple, no_effect, carried_out}
 use Rattle.graph.proofs.StoreLaws.{placed}
 use Rattle.graph.proofs.stored_graph.StoredGraphEditableGraph.remove.Goals as goal
 
-pub returns-then-not-is-triple : goal.returns-then-not-is-triple
-returns-then-not-is-triple c =
+pub returns-then-not-is_triple : goal.returns-then-not-is_triple
+returns-then-not-is_triple c =
     let self = c.args.self.now in
     let change = removing c.args.triple in
     let free = length self.list.places.now - length (elements self.list) in
-    let done = not_a_triple change (no_room free change) (elements self.list) free (λ e. absurd (true≢false (sym e))) (sym c.if-not-is-triple.ensures) in
+    let done = not_a_triple change (no_room free change) (elements self.list) free (λ e. absurd (true≢false (sym e))) (sym c.if-not-is_triple.ensures) in
     record { applied = done; make = refl; framed = (refl, refl); kept = λ _. refl; same = refl; places = placed self.list _ _ self.zeros done.set refl }
 
 pub returns-then-not-contains : goal.returns-then-not-contains
@@ -27,33 +27,30 @@ returns-then-not-contains c =
     let change = removing c.args.triple in
     let free = length self.list.places.now - length (elements self.list) in
     let none : has_effect change (elements self.list) ≡ false = sym (c.if-not-contains.ensures self.ordered) in
-    let done = no_effect change (no_room free change) (elements self.list) free (λ e. absurd (true≢false (sym e))) (sym c.if-not-is-triple.ensures) none (record { ascending = self.ordered; members = self.members }) in
+    let done = no_effect change (no_room free change) (elements self.list) free (λ e. absurd (true≢false (sym e))) (sym c.if-not-is_triple.ensures) none (record { ascending = self.ordered; members = self.members }) in
     record { applied = done; make = refl; framed = (refl, refl); kept = λ _. refl; same = refl; places = placed self.list _ _ self.zeros done.set refl }
 
-pub invariant-of-self : goal.invariant-of-self
-invariant-of-self c =
+pub invariant_of-self : goal.invariant_of-self
+invariant_of-self c =
     let self = c.args.self.now in
-    let gone = taken_out compare_triples c.args.triple self.list c.take-out-taken.new.self no_triple c.take-out-taken.result (sym (c.if-not-contains.ensures self.ordered)) (c.take-out-taken.ensures.takes self.ordered) in
-    let members = every_without triple_laws is_triple c.args.triple (elements self.list) self.members in (
-      c.take-out-taken.ensures.ordered self.ordered,
-      (subst (λ s. every is_triple s ≡ true) (sym gone.0) members, (more_blank no_triple (spare self.list) _ gone.1 self.zeros, tt)),
-    )
+    let gone = taken_out compare_triples c.args.triple self.list c.take_out-taken.new.self no_triple c.take_out-taken.result (sym (c.if-not-contains.ensures self.ordered)) (c.take_out-taken.ensures.takes self.ordered) in
+    let members = every_without triple_laws is_triple c.args.triple (elements self.list) self.members in record { ordered = c.take_out-taken.ensures.ordered self.ordered; members = subst (λ s. every is_triple s ≡ true) (sym gone.0) members; zeros = more_blank no_triple (spare self.list) _ gone.1 self.zeros }
 
 pub returns : goal.returns
 returns c =
     let self = c.args.self.now in
-    let end = c.take-out-taken.new.self in
+    let end = c.take_out-taken.new.self in
     let change = removing c.args.triple in
     let free = length self.list.places.now - length (elements self.list) in
     let held = sym (c.if-not-contains.ensures self.ordered) in
-    let gone = taken_out compare_triples c.args.triple self.list end no_triple c.take-out-taken.result held (c.take-out-taken.ensures.takes self.ordered) in
-    let size = c.take-out-taken.ensures.size in
+    let gone = taken_out compare_triples c.args.triple self.list end no_triple c.take_out-taken.result held (c.take_out-taken.ensures.takes self.ordered) in
+    let size = c.take_out-taken.ensures.size in
     let zeros = more_blank no_triple (spare self.list) _ gone.1 self.zeros in
     record {
-      applied = carried_out change false (elements self.list) free (λ e. absurd (true≢false (sym e))) (elements end) _ (sym c.if-not-is-triple.ensures) held refl gone.0;
+      applied = carried_out change false (elements self.list) free (λ e. absurd (true≢false (sym e))) (elements end) _ (sym c.if-not-is_triple.ensures) held refl gone.0;
       make = ap stored size;
-      framed = (c.take-out-taken.ensures.same, size);
+      framed = (c.take_out-taken.ensures.same, size);
       kept = λ none. absurd (both_ways _ none held);
-      same = c.take-out-taken.ensures.same;
+      same = c.take_out-taken.ensures.same;
       places = placed end _ _ zeros gone.0 size;
     }

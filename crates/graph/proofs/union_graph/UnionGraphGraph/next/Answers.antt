@@ -9,6 +9,6 @@ use Rattle.graph.proofs.union_graph.UnionGraphGraph.next.Goals as goal
 pub returns : goal.returns
 returns g c =
     let self = c.args.self.now in
-    c.lesser-of.ensures
+    c.lesser_of.ensures
     ∙ ap₂ (lesser compare_triples) c.next.ensures c.next-2.ensures
     ∙ sym (above_insert_all triple_laws c.args.after (g.L.Graph.triples self.left) (g.R.Graph.triples self.right) (g.L.Graph.lawful self.left).ascending (g.R.Graph.lawful self.right).ascending)
