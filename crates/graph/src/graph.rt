@@ -10,13 +10,13 @@ use rdf::term::Term;
 use rdf::triple::Triple;
 use std::cmp::Ordering;
 
-// A finite set of Triples that can be read in order. What reads it takes it by `&`, so that the whole graph is what it was before.
+// A finite set of triples that can be read in order. What reads it takes it by `&`, so that the whole graph is what it was before.
 pub trait Graph {
     // The set, ascending.
     ghost triples: { Self → Triples };
 
-    // It is strictly ascending and has Triples only.
-    ghost lawful: { (g : Self) → TripleSet (Triples g) };
+    // It is strictly ascending and has triples only.
+    ghost lawful: { (g : Self) → TripleSet (triples g) };
 
     // What rules its free places.
     ghost make: { Self → Make };
@@ -28,14 +28,14 @@ pub trait Graph {
     ghost full: { Self → Change → Bool };
 
     // The free places are as its make says.
-    ghost ruled: { (g : Self) → Ruled (make g) (Triples g) (room g) (full g) };
+    ghost ruled: { (g : Self) → Ruled (make g) (triples g) (room g) (full g) };
 
     // The least triple of the set above any three numbers.
     fn next(&self, after: Triple) -> Option<Triple>
-        ensures { result ≡ above compare_triples after (Triples self.now) };
+        ensures { result ≡ above compare_triples after (triples self.now) };
 }
 
-// The lesser of two Triples, or the one that there is.
+// The lesser of two triples, or the one that there is.
 pub fn lesser_of(left: Option<Triple>, right: Option<Triple>) -> Option<Triple>
     ensures { result ≡ lesser compare_triples left right }
 {
@@ -51,7 +51,7 @@ pub fn lesser_of(left: Option<Triple>, right: Option<Triple>) -> Option<Triple>
 
 // Whether the triple is in the set: it is the next one above the three numbers just before it.
 pub fn contains<G: Graph>(graph: &G, triple: Triple) -> bool
-    ensures { result ≡ holds compare_triples triple (Triples graph.now) }
+    ensures { result ≡ holds compare_triples triple (G.triples graph.now) }
 {
     let object = triple.object.0;
     if object == 0 {

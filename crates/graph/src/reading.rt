@@ -7,12 +7,12 @@ use crate::graph::Graph;
 use rdf::refusal::Refusal;
 use rdf::triple::{NO_TRIPLE, Triple};
 
-// Writes the graph's Triples, ascending, and empty places after them, and tells how many they are.
+// Writes the graph's triples, ascending, and empty places after them, and tells how many they are.
 // Where they are more than the places, every place is empty. Each triple costs one call of `next`, and the end one more.
 pub fn read_all<G: Graph>(graph: &G, memory: &mut [Triple]) -> Result<usize, Refusal>
-    ensures count { result ≡ read_count (Triples graph.now) (length memory.old) }
-    ensures numbered { refused_by result ≡ (if nat_le (length (Triples graph.now)) (length memory.old) then None else Some 10) }
-    ensures memory { memory.new ≡ read_places (Triples graph.now) (length memory.old) }
+    ensures count { result ≡ read_count (G.triples graph.now) (length memory.old) }
+    ensures numbered { refused_by result ≡ (if nat_le (length (G.triples graph.now)) (length memory.old) then None else Some 10) }
+    ensures memory { memory.new ≡ read_places (G.triples graph.now) (length memory.old) }
 {
     memory.fill(NO_TRIPLE);
     let mut count = 0;
