@@ -192,7 +192,7 @@ where
 
     ghost idle = { λ o k l. O.Opening.idle o.opening (take o.split k) (take o.split l) };
 
-    ghost runs = { λ o i j l g. (k : O.Made) × O.Opening.runs o.opening i j (take o.split l) k × Ran Made-as-Graph.make Made-as-Graph.triples Made-as-Graph.room Made-as-Graph.full Made-as-EditableGraph.frame Made-as-EditableGraph.unaltered i j k (drop o.split l) g };
+    ghost runs = { λ o i j l g. (k : O.Made) × O.Opening.runs o.opening i j (take o.split l) k × Ran O.Made.make O.Made.triples O.Made.room O.Made.full O.Made.frame O.Made.unaltered i j k (drop o.split l) g };
 
     fn open(self, log: &mut [Step], reading: &mut [Triple], rows: &mut [Row]) -> O::Made {
         let split = within(self.split, log.len());

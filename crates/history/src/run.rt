@@ -53,7 +53,7 @@ pub(crate) fn put<G: Graph>(
     reading: &mut [Triple],
     rows: &mut [Row],
 ) -> Result<(usize, usize), Refusal>
-    ensures { Asked strategy (triples graph.now) query.now.entries.now query.now.values.now start.now reading.old reading.new rows.old rows.new result }
+    ensures { Asked strategy (G.triples graph.now) query.now.entries.now query.now.values.now start.now reading.old reading.new rows.old rows.new result }
 {
     match strategy {
         Strategy::BottomUp => bottom_up(graph, query, start, reading, rows),
@@ -63,9 +63,9 @@ pub(crate) fn put<G: Graph>(
 
 // Puts a question in the first places of the lent memory.
 fn ask<G: Graph>(graph: &G, question: &Question, reading: &mut [Triple], rows: &mut [Row]) -> Answer
-    ensures answer { result ≡ solved_by (reply (answer_to (length reading.old) (length rows.old) (triples graph.now) question.now)) }
-    ensures reading { reading.new ≡ first_places question.now.reading (reading_after (answer_to (length reading.old) (length rows.old) (triples graph.now) question.now) (triples graph.now)) reading.old }
-    ensures rows { rows.new ≡ first_places question.now.rows (rows_after (answer_to (length reading.old) (length rows.old) (triples graph.now) question.now)) rows.old }
+    ensures answer { result ≡ solved_by (reply (answer_to (length reading.old) (length rows.old) (G.triples graph.now) question.now)) }
+    ensures reading { reading.new ≡ first_places question.now.reading (reading_after (answer_to (length reading.old) (length rows.old) (G.triples graph.now) question.now) (G.triples graph.now)) reading.old }
+    ensures rows { rows.new ≡ first_places question.now.rows (rows_after (answer_to (length reading.old) (length rows.old) (G.triples graph.now) question.now)) rows.old }
 {
     let places = within(question.reading, reading.len());
     let share = within(question.rows, rows.len());
@@ -86,7 +86,7 @@ fn carry_out<G: EditableGraph>(
     reading: &mut [Triple],
     rows: &mut [Row],
 ) -> Answer
-    ensures { Carries G.Graph.make G.Graph.triples G.Graph.room G.Graph.full frame unaltered (length reading.old) (length rows.old) call.now graph.old reading.old rows.old result graph.new reading.new rows.new }
+    ensures { Carries G.Graph.make G.Graph.triples G.Graph.room G.Graph.full G.frame G.unaltered (length reading.old) (length rows.old) call.now graph.old reading.old rows.old result graph.new reading.new rows.new }
 {
     match call {
         Call::Next(after) => Answer::Least(graph.next(*after)),
@@ -106,8 +106,8 @@ pub fn run<G: EditableGraph>(
     rows: &mut [Row],
 )
     ensures calls { map (λ x. x.call) log.new ≡ map (λ x. x.call) log.old }
-    ensures runs { Runs G.Graph.make G.Graph.triples G.Graph.room G.Graph.full frame unaltered (length reading.old) (length rows.old) graph.old reading.old rows.old log.new graph.new reading.new rows.new }
-    ensures framed { frame graph.old graph.new }
+    ensures runs { Runs G.Graph.make G.Graph.triples G.Graph.room G.Graph.full G.frame G.unaltered (length reading.old) (length rows.old) graph.old reading.old rows.old log.new graph.new reading.new rows.new }
+    ensures framed { G.frame graph.old graph.new }
     ensures account { (c : Course) → account_of c ≡ G.Graph.triples graph.old → account_of (since c log.new) ≡ G.Graph.triples graph.new }
     ensures make { G.Graph.make graph.new ≡ G.Graph.make graph.old }
     ensures answers { (c : Course) → account_of c ≡ G.Graph.triples graph.old → make_of (history_of c) ≡ G.Graph.make graph.old → Leaves (length reading.old) (length rows.old) c (G.Graph.room graph.old) (G.Graph.full graph.old) → Leaves (length reading.old) (length rows.old) (since c log.new) (G.Graph.room graph.new) (G.Graph.full graph.new) }

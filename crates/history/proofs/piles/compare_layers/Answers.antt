@@ -12,22 +12,22 @@ pub returns : goal.returns
 returns c =
     let told = c.compare.ensures in
     let end = c.compare.new in
-    let log = end.left-log in
+    let log = end.left_log in
     let split = c.args.split in
     let q = c.args.query.now in
     let start = c.args.start.now in
-    let other = layer c.args.right.now end.right-log in
+    let other = layer c.args.right.now end.right_log in
     let course : List Step → Course = λ l. since (laid_over (joined (layer c.args.entries.now l) (listed c.args.others.now))) (drop split log) in
     let once : course (take split (take split log)) ≡ layers c.args.entries.now c.args.others.now split log = ap course (take-take split split log (omega arith)) in
     record {
       logs = (
-        subst (λ x. Logged x c.args.log.now log c.args.log-reading.now end.left-log-reading c.args.log-rows.now end.left-log-rows) once told.logs.0,
+        subst (λ x. Logged x c.args.log.now log c.args.log_reading.now end.left_log_reading c.args.log_rows.now end.left_log_rows) once told.logs.0,
         told.logs.1,
       );
-      left = subst (λ x. Outcome TopDown (account_of x) q.entries.now q.values.now start c.args.left-reading.now end.left-reading c.args.left-rows.now end.left-rows c.compare.result.0) once told.left;
+      left = subst (λ x. Outcome TopDown (account_of x) q.entries.now q.values.now start c.args.left_reading.now end.left_reading c.args.left_rows.now end.left_rows c.compare.result.0) once told.left;
       right = told.right;
       promise =
           subst
-          (λ x. account_of x ≡ account_of other → length c.args.left-reading.now ≡ length c.args.right-reading.now → length c.args.left-rows.now ≡ length c.args.right-rows.now → Promise (account_of x) q.entries.now q.values.now start (length c.args.left-reading.now) (length c.args.left-rows.now) c.compare.result.0 c.compare.result.1 end.left-rows end.right-rows)
+          (λ x. account_of x ≡ account_of other → length c.args.left_reading.now ≡ length c.args.right_reading.now → length c.args.left_rows.now ≡ length c.args.right_rows.now → Promise (account_of x) q.entries.now q.values.now start (length c.args.left_reading.now) (length c.args.left_rows.now) c.compare.result.0 c.compare.result.1 end.left_rows end.right_rows)
           once told.promise;
     }

@@ -22,7 +22,7 @@ returns g c =
       answer = c.solved.ensures ∙ ap solved_by (c.put.ensures.answered ∙ ap₂ (λ i j. reply (told i j)) few some);
       reading =
           ap₂ ◌++◌
-          (c.put.ensures.reading-is ∙ ap₂ (λ i j. reading_after (told i j) s (take places m)) few some ∙ ap (reading_after (told _ _) s) (first_taken m q.reading places c.within-places.ensures))
+          (c.put.ensures.reading_is ∙ ap₂ (λ i j. reading_after (told i j) s (take places m)) few some ∙ ap (reading_after (told _ _) s) (first_taken m q.reading places c.within-places.ensures))
           (others_left m q.reading places c.within-places.ensures);
       rows =
           ap₂ ◌++◌

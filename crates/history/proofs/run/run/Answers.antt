@@ -23,7 +23,7 @@ loop-step-preserved g c =
     let inside : i < length log = omega (arith, c.loop-step.auto.log) in (
       same_calls log i _ blank inside refl ∙ c.loop-step.invariant.0,
       run_more x.make x.triples x.room x.full e.frame e.unaltered _ _ _ _ _ _ _ _ _ _ _ log i _ inside c.loop-step.invariant.1
-          _ _ c.loop-step.auto.reading c.loop-step.auto.rows c.carry-out-step.ensures,
+          _ _ c.loop-step.auto.reading c.loop-step.auto.rows c.carry_out-step.ensures,
     )
 
 pub returns : goal.returns

@@ -15,8 +15,8 @@ returns g c =
     let parts = in_parts c.args.self.split c.within-split.result c.args.log.now first second c.within-split.ensures c.open-graph.auto.log c.run.auto.log in
     let opened = c.open-graph.ensures in
     let ran = c.run.ensures in
-    let graph = g.Made-as-Graph in
-    let edit = g.Made-as-EditableGraph in
+    let graph = g.O.Made.Graph in
+    let edit = g.O.Made.EditableGraph in
     let before : List Step → Course = g.O.Opening.course c.args.self.opening in
     let m = c.args.reading.now in
     let w = c.args.rows.now in
@@ -35,8 +35,8 @@ returns g c =
     subst₂ (λ s t. rows_since s t (before first) w ≡ c.open-graph.new.rows → rows_since s t (since (before first) second) w ≡ c.run.new.rows)
     p q (ran.rows (before first) w set) (sym opened.rows) in
     record {
-      calls = parts.same-calls opened.calls ran.calls;
-      idle = subst₂ (g.O.Opening.idle c.args.self.opening) parts.front-before parts.front opened.idle;
+      calls = parts.same_calls opened.calls ran.calls;
+      idle = subst₂ (g.O.Opening.idle c.args.self.opening) parts.front_before parts.front opened.idle;
       runs = (
         c.open-graph.result,
         subst (λ l. g.O.Opening.runs c.args.self.opening i j l c.open-graph.result) parts.front opened.runs,

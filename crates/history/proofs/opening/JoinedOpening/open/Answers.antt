@@ -25,12 +25,12 @@ returns g c =
     let j = length w in
     let answered : Truthful i j (right second) =
     subst₂ (λ s t. Truthful s t (right second)) same-reading same_rows
-    (g.Made-as-Graph-2.room c.open-right.result, g.Made-as-Graph-2.full c.open-right.result, two.answers) in
+    (g.B.Made.Graph.room c.open-right.result, g.B.Made.Graph.full c.open-right.result, two.answers) in
     record {
-      calls = parts.same-calls one.calls two.calls;
+      calls = parts.same_calls one.calls two.calls;
       idle = (
-        subst₂ (g.A.Opening.idle c.args.self.left) parts.front-before parts.front one.idle,
-        subst₂ (g.B.Opening.idle c.args.self.right) parts.back-before parts.back two.idle,
+        subst₂ (g.A.Opening.idle c.args.self.left) parts.front_before parts.front one.idle,
+        subst₂ (g.B.Opening.idle c.args.self.right) parts.back_before parts.back two.idle,
       );
       runs = (
         subst₂ (g.A.Opening.runs c.args.self.left i j) parts.front (sym c.new.ensures.kept.0) one.runs,
@@ -42,7 +42,7 @@ returns g c =
           ∙ ap₂ (λ (a b : List Step). account_of (joined (left a) (right b))) parts.front parts.back;
       make = refl;
       answers = (
-        subst (λ l. Truthful i j (left l)) parts.front (g.Made-as-Graph-1.room c.open-left.result, g.Made-as-Graph-1.full c.open-left.result, one.answers),
+        subst (λ l. Truthful i j (left l)) parts.front (g.A.Made.Graph.room c.open-left.result, g.A.Made.Graph.full c.open-left.result, one.answers),
         subst (λ l. Truthful i j (right l)) parts.back answered,
         (refl, λ _. refl),
       );

@@ -20,9 +20,9 @@ returns g c =
       account = account;
       make = make;
       answers = (
-        (g.Made-as-Graph.room c.open.result, g.Made-as-Graph.full c.open.result, made.answers),
+        (g.O.Made.Graph.room c.open.result, g.O.Made.Graph.full c.open.result, made.answers),
         subst₂ (λ k s. Ruled k s (unused marks) (λ x. no_mark marks (triple_of x))) make account
-            (overlay_ruled marks (g.Made-as-Graph.triples overlay.base) (record { ascending = overlay.ordered; members = overlay.members }) (g.Made-as-Graph.lawful overlay.base)),
+            (overlay_ruled marks (g.O.Made.Graph.triples overlay.base) (record { ascending = overlay.ordered; members = overlay.members }) (g.O.Made.Graph.lawful overlay.base)),
       );
       reading = made.reading;
       rows = made.rows;
