@@ -67,7 +67,7 @@ fn ask<'a, G: Graph>(
     reading: &mut [Triple],
     rows: &mut [Row],
 ) -> Result<(usize, usize), Refusal>
-    ensures { Asked BottomUp (triples graph.now) entries.now values.now empty_row reading.old reading.new rows.old rows.new result }
+    ensures { Asked BottomUp (G.triples graph.now) entries.now values.now empty_row reading.old reading.new rows.old rows.new result }
 {
     let query = Query { entries, values };
     bottom_up(graph, &query, &EMPTY_ROW, reading, rows)
@@ -79,7 +79,7 @@ pub fn ask_unweighed<G: Graph>(
     reading: &mut [Triple],
     rows: &mut [Row],
 ) -> Result<(usize, usize), Refusal>
-    ensures { Asked BottomUp (triples graph.now) unweighed [] empty_row reading.old reading.new rows.old rows.new result }
+    ensures { Asked BottomUp (G.triples graph.now) unweighed [] empty_row reading.old reading.new rows.old rows.new result }
 {
     ask(graph, &UNWEIGHED, &[], reading, rows)
 }
@@ -90,7 +90,7 @@ pub fn ask_not_at_reel<G: Graph>(
     reading: &mut [Triple],
     rows: &mut [Row],
 ) -> Result<(usize, usize), Refusal>
-    ensures { Asked BottomUp (triples graph.now) not_at_reel [] empty_row reading.old reading.new rows.old rows.new result }
+    ensures { Asked BottomUp (G.triples graph.now) not_at_reel [] empty_row reading.old reading.new rows.old rows.new result }
 {
     ask(graph, &NOT_AT_REEL, &[], reading, rows)
 }

@@ -62,7 +62,7 @@ impl Request {
         ensures outcome { result ≡ outcome (G.Graph.full graph.old) self (G.Graph.triples graph.old) }
         ensures history { (h : History) → account h ≡ G.Graph.triples graph.old → account (then_called h (event_of self result)) ≡ G.Graph.triples graph.new }
         ensures make { G.Graph.make graph.new ≡ G.Graph.make graph.old }
-        ensures framed { frame graph.old graph.new }
+        ensures framed { G.frame graph.old graph.new }
     {
         match self {
             Request::Add(triple) => {
@@ -85,7 +85,7 @@ pub fn carry_out<G: EditableGraph>(graph: &mut G, steps: &mut [Step])
     ensures course { Course (G.Graph.make graph.old) (G.Graph.triples graph.old) steps.new }
     ensures history { (h : History) → account h ≡ G.Graph.triples graph.old → account (since h steps.new) ≡ G.Graph.triples graph.new }
     ensures make { G.Graph.make graph.new ≡ G.Graph.make graph.old }
-    ensures framed { frame graph.old graph.new }
+    ensures framed { G.frame graph.old graph.new }
 {
     for step in steps.iter_mut() {
         step.outcome = step.request.carry_out(graph);

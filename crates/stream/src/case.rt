@@ -47,7 +47,7 @@ pub(crate) fn calls<G: EditableGraph, W: Write>(
 
 // All triples of a graph, ascending.
 fn all_triples<G: Graph>(heap: Global, graph: &G) -> Result<Vec<Triple>, Cause>
-    ensures { IfOk result (λ v. v.items ≡ triples graph.now) }
+    ensures { IfOk result (λ v. v.items ≡ G.triples graph.now) }
 {
     let mut triples = Vec::new(heap);
     let mut last = NO_TRIPLE;

@@ -12,6 +12,7 @@ mod shape;
 use fault::Fault;
 use shape::answer;
 use std::io::{BufWriter, Read};
+use std::process::ExitCode;
 
 fn run(rt: &HostRuntime) -> Result<(), Fault> {
     let mut text = Vec::new(rt.alloc());
@@ -19,10 +20,12 @@ fn run(rt: &HostRuntime) -> Result<(), Fault> {
     answer(rt.alloc(), &text, BufWriter::new(rt.alloc(), rt.stdout())?)
 }
 
-fn main(rt: HostRuntime) -> Result<(), Fault> {
-    let done = run(&rt);
-    if let Err(fault) = &done {
-        let _ = eprintln!(rt; "stream: {fault}");
+fn main(rt: HostRuntime) -> ExitCode {
+    match run(&rt) {
+        Ok(()) => ExitCode::SUCCESS,
+        Err(fault) => {
+            let _ = eprintln!(rt; "stream: {fault}");
+            ExitCode::FAILURE
+        }
     }
-    done
 }

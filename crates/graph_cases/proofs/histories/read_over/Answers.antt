@@ -9,9 +9,9 @@ returns g c =
     let size = length c.args.memory.now in
     record {
       count = λ h k p q.
-          c.read-all-count.ensures.count
+          c.read_all-count.ensures.count
           ∙ ap (λ s. read_count s size) (sym (c.add-change.ensures.applied.history (laid_over (joined h k)) (c.new-overlay.ensures.history (joined h k) (c.new.ensures.history h k p q))));
       memory = λ h k p q.
-          c.read-all-count.ensures.memory
+          c.read_all-count.ensures.memory
           ∙ ap (λ s. read_places s size) (sym (c.add-change.ensures.applied.history (laid_over (joined h k)) (c.new-overlay.ensures.history (joined h k) (c.new.ensures.history h k p q))));
     }

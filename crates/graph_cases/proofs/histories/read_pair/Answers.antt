@@ -8,6 +8,6 @@ returns c =
     let stored = emptied (length c.args.places.now) in
     let list = listed c.args.entries.now in
     record {
-      count = c.read-over.ensures.count stored list c.new-stored.ensures.history c.new-list.ensures.history;
-      memory = c.read-over.ensures.memory stored list c.new-stored.ensures.history c.new-list.ensures.history;
+      count = c.read_over.ensures.count stored list c.new-stored.ensures.history c.new-list.ensures.history;
+      memory = c.read_over.ensures.memory stored list c.new-stored.ensures.history c.new-list.ensures.history;
     }

@@ -8,13 +8,13 @@ use Rattle.reelbook.proofs.layers.correct.Goals as goal
 pub returns : goal.returns
 returns g c =
     let set = g.B.Graph.triples c.args.base in
-    let steps = c.carry-out.new.steps in
+    let steps = c.carry_out.new.steps in
     let bare = c.new-overlay.ensures.history (opened other set) refl in
     record {
-      requests = c.carry-out.ensures.requests;
+      requests = c.carry_out.ensures.requests;
       course =
           subst (λ k. Course k set steps) (ap (λ b. overlaid (g.B.Graph.triples b)) c.new-overlay.ensures.kept)
-          (subst (λ s. Course (overlaid (g.B.Graph.triples c.new-overlay.result.base)) s steps) (sym bare) c.carry-out.ensures.course);
-      history = λ h e. c.carry-out.ensures.history (laid_over h) (c.new-overlay.ensures.history h e);
-      base = c.carry-out.ensures.framed ∙ c.new-overlay.ensures.kept;
+          (subst (λ s. Course (overlaid (g.B.Graph.triples c.new-overlay.result.base)) s steps) (sym bare) c.carry_out.ensures.course);
+      history = λ h e. c.carry_out.ensures.history (laid_over h) (c.new-overlay.ensures.history h e);
+      base = c.carry_out.ensures.framed ∙ c.new-overlay.ensures.kept;
     }

@@ -13,9 +13,9 @@ loop-step-preserved g c =
     let within : c.loop-step.step-index < length c.loop-step.steps = omega (arith, c.loop-step.auto.steps) in
     let ruled = subst (λ k. Ruled k (g.G.Graph.triples graph) (g.G.Graph.room graph) (g.G.Graph.full graph)) c.loop-step.invariant.1 (g.G.Graph.ruled graph) in (
       progress_more _ _ _ _ _ _ c.loop-step.invariant.0 _ _ _ within
-          (g.G.Graph.room graph, (g.G.Graph.full graph, (ruled, c.carry-out-step.ensures.outcome))) c.carry-out-step.ensures.history,
-      c.carry-out-step.ensures.make ∙ c.loop-step.invariant.1,
-      g.G.EditableGraph.onward _ _ _ c.loop-step.invariant.2 c.carry-out-step.ensures.framed,
+          (g.G.Graph.room graph, (g.G.Graph.full graph, (ruled, c.carry_out-step.ensures.outcome))) c.carry_out-step.ensures.history,
+      c.carry_out-step.ensures.make ∙ c.loop-step.invariant.1,
+      g.G.EditableGraph.onward _ _ _ c.loop-step.invariant.2 c.carry_out-step.ensures.framed,
     )
 
 pub returns : goal.returns
@@ -23,7 +23,7 @@ returns g c =
     let end : length c.loop-step.steps ≤ c.loop-step.step-index = omega (arith, c.loop-step.auto.steps) in
     let progress = c.loop-step.invariant.0 in
     record {
-      requests = progress.asked-same;
+      requests = progress.asked_same;
       course = course_all _ _ _ _ _ _ progress end;
       history = history_all _ _ _ _ _ _ progress end;
       make = c.loop-step.invariant.1;

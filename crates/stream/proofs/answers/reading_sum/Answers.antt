@@ -11,8 +11,8 @@ pub loop-place-preserved : goal.loop-place-preserved
 loop-place-preserved c =
     let places = c.args.places.now in
     let i = c.loop-place.place-index in
-    let step : sum_with c.with-number-sum-in-loop-place-2.result (for_each triple_numbers (drop (i + 1) places)) ≡ reading_sum places =
-    rw (c.with-number-sum-in-loop-place-2.ensures, c.with-number-sum-in-loop-place.ensures, c.with-number-sum.ensures)
+    let step : sum_with c.with_number-sum-in-loop-place-2.result (for_each triple_numbers (drop (i + 1) places)) ≡ reading_sum places =
+    rw (c.with_number-sum-in-loop-place-2.ensures, c.with_number-sum-in-loop-place.ensures, c.with_number-sum.ensures)
     (sym (triple_read c.loop-place.sum places i no_triple c.loop-place-test.true) ∙ c.loop-place.invariant) in
     step
 

@@ -10,8 +10,8 @@ pub loop-row-preserved : goal.loop-row-preserved
 loop-row-preserved c =
     let rows = c.args.rows.now in
     let i = c.loop-row.row-index in
-    let step : sum_with c.with-terms-sum.result (for_each row_numbers (drop (i + 1) rows)) ≡ row_sum rows =
-    rw c.with-terms-sum.ensures (sym (row_read c.loop-row.sum rows i (record { places = [] }) c.loop-row-test.true) ∙ c.loop-row.invariant) in
+    let step : sum_with c.with_terms-sum.result (for_each row_numbers (drop (i + 1) rows)) ≡ row_sum rows =
+    rw c.with_terms-sum.ensures (sym (row_read c.loop-row.sum rows i (record { places = [] }) c.loop-row-test.true) ∙ c.loop-row.invariant) in
     step
 
 pub returns : goal.returns

@@ -8,7 +8,7 @@ pub loop-term-preserved : goal.loop-term-preserved
 loop-term-preserved c =
     let terms = c.args.terms.now in
     let i = c.loop-term.term-index in
-    ap (λ n. sum_with n (term_numbers (drop (i + 1) terms))) c.with-number-total.ensures
+    ap (λ n. sum_with n (term_numbers (drop (i + 1) terms))) c.with_number-total.ensures
     ∙ sym (at_drop_more (λ l. sum_with c.loop-term.total (term_numbers l)) terms i _ c.loop-term-test.true)
     ∙ c.loop-term.invariant
 

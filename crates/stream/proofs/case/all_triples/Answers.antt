@@ -14,7 +14,7 @@ pub loop-triple-smaller : goal.loop-triple-smaller
 loop-triple-smaller g c =
     let graph = c.args.graph.now in
     let inside = one_more (g.G.Graph.triples graph) (g.G.Graph.lawful graph) _ _ _ c.loop-triple.invariant c.in-Some.triple c.in-Some.ensures in
-    let longer = c.in-ok-push.ensures.len in
+    let longer = c.in_ok-push.ensures.len in
     omega (arith, longer, inside)
 
 pub loop-triple-preserved : goal.loop-triple-preserved
@@ -22,9 +22,9 @@ loop-triple-preserved g c =
     let graph = c.args.graph.now in
     let s = g.G.Graph.triples graph in
     let more = collected_more s (g.G.Graph.lawful graph) _ _ _ c.loop-triple.invariant c.in-Some.triple c.in-Some.ensures in
-    rw (c.in-ok-push.ensures.items, c.in-ok-push.ensures.len) more
+    rw (c.in_ok-push.ensures.items, c.in_ok-push.ensures.len) more
 
 pub returns : goal.returns
 returns g c =
     let graph = c.args.graph.now in
-    collected_all (g.G.Graph.triples graph) (g.G.Graph.lawful graph) _ _ _ c.loop-triple.invariant c.in-default.ensures
+    collected_all (g.G.Graph.triples graph) (g.G.Graph.lawful graph) _ _ _ c.loop-triple.invariant c.in_default.ensures
