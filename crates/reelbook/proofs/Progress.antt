@@ -4,11 +4,10 @@ use Rattle.std.proofs.lemmas.List.{take_all, take_more_set}
 use Rattle.rdf.specs.declared.refusal.Refusal.{Refusal}
 use Rattle.rdf.specs.declared.triple.Triple.{Triple}
 use Rattle.graph.specs.Changes.{accepted}
-use Rattle.graph.specs.Histories.{History, account, opened, recorded, then_called}
+use Rattle.graph.specs.Histories.{History, account, opened, then_called}
 use Rattle.graph.specs.Makes.{Make}
 use Rattle.reelbook.specs.Requests.{Answered, Course, event_of, is_accepted, requests, since, told}
 use Rattle.reelbook.specs.declared.request.Outcome.{Outcome}
-use Rattle.reelbook.specs.declared.request.Request.{Request}
 use Rattle.reelbook.specs.declared.request.Step.{Step}
 
 -- what is told says whether the change was accepted

@@ -1,6 +1,6 @@
 -- Shows how blanks and digits are passed, byte by byte.
 use Rattle.std.proofs.Common.{◌≡◌, ℕ, ◌+◌, ◌<◌, ◌≤◌, true, false, List, [], ◌∷◌, length, get_or, drop, Ok, Err, sym, refl, ap, ◌∙◌, arith}
-use Rattle.std.proofs.lemmas.List.{at_drop_all, at_drop_more, drop_more, drop_all}
+use Rattle.std.proofs.lemmas.List.{at_drop_more, drop_more, drop_all}
 use Rattle.std.proofs.lemmas.Bool.{cond-true, cond-false}
 use Rattle.stream.specs.Numerals.{after_blanks, after_numeral, is_blank, number_on, numeral, with_digit}
 use Rattle.stream.specs.declared.fault.Cause.{Cause}

@@ -6,7 +6,7 @@ use Rattle.graph.specs.Reading.{then_empty}
 use Rattle.graph.specs.contracts.stored_graph.StoredGraphGraph.TheImpl.{ghosts as meaning}
 use Rattle.semantics.specs.declared.strategy.Strategy.TheVariants.{TopDown}
 use Rattle.semantics.specs.Promise.{Promise}
-use Rattle.history.specs.Courses.{account_of, emptied, since}
+use Rattle.history.specs.Courses.{emptied}
 use Rattle.history.specs.Outcomes.{Outcome}
 use Rattle.history.proofs.piles.agree_and_give_back.Goals as goal
 

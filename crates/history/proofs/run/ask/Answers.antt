@@ -1,6 +1,4 @@
-use Rattle.std.proofs.Common.{ℕ, List, ◌++◌, take, ap, ◌∙◌, ap₂}
-use Rattle.rdf.specs.declared.row.Row.{Row}
-use Rattle.rdf.specs.declared.triple.Triple.{Triple}
+use Rattle.std.proofs.Common.{ℕ, ◌++◌, take, ap, ◌∙◌, ap₂}
 use Rattle.semantics.specs.Questions.{answer, reply, reading_after, rows_after}
 use Rattle.semantics.specs.Questions as question
 use Rattle.history.specs.Replies.{solved_by}

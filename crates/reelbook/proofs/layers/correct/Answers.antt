@@ -1,6 +1,6 @@
 -- Shows that the steps on a fresh overlay are a course from the set of its base, and carry the history of the base on. Assumes nothing.
-use Rattle.std.proofs.Common.{◌≡◌, sym, refl, ap, ◌∙◌, subst}
-use Rattle.graph.specs.Histories.{account, laid_over, opened}
+use Rattle.std.proofs.Common.{sym, refl, ap, ◌∙◌, subst}
+use Rattle.graph.specs.Histories.{laid_over, opened}
 use Rattle.graph.specs.Makes.{other, overlaid}
 use Rattle.reelbook.specs.Requests.{Course}
 use Rattle.reelbook.proofs.layers.correct.Goals as goal

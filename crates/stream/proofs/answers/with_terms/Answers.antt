@@ -1,5 +1,5 @@
 -- Each turn goes on with the number of one term.
-use Rattle.std.proofs.Common.{◌≡◌, ◌+◌, drop, sym, ap, ◌∙◌}
+use Rattle.std.proofs.Common.{◌+◌, drop, sym, ap, ◌∙◌}
 use Rattle.std.proofs.lemmas.List.{at_drop_all, at_drop_more}
 use Rattle.stream.specs.Answers.{sum_with, term_numbers}
 use Rattle.stream.proofs.answers.with_terms.Goals as goal

@@ -1,7 +1,6 @@
 -- Each turn collects the next triple of the set; where there is none, all are collected.
-use Rattle.std.proofs.Common.{◌≡◌, ◌+◌, ◌<◌, length, vec_items, vec_len, sym, ap, ◌∙◌, subst, arith}
-use Rattle.rdf.specs.Triples.{no_triple}
-use Rattle.stream.proofs.Collecting.{Collected, collected_all, collected_more, collected_none, one_more}
+use Rattle.std.proofs.Common.{arith}
+use Rattle.stream.proofs.Collecting.{collected_all, collected_more, collected_none, one_more}
 use Rattle.stream.proofs.case.all_triples.Goals as goal
 
 pub loop-triple-init : goal.loop-triple-init

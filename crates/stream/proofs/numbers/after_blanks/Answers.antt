@@ -1,5 +1,5 @@
 -- Each blank is passed; at the first byte that is none the rest begins.
-use Rattle.std.proofs.Common.{◌≡◌, [], length, drop, sym, ◌∙◌}
+use Rattle.std.proofs.Common.{sym, ◌∙◌}
 use Rattle.stream.specs.Numerals.{after_blanks}
 use Rattle.stream.proofs.Lexing.{at_end, blank_passed, blanks_end, none_left}
 use Rattle.stream.proofs.numbers.after_blanks.Goals as goal

@@ -1,9 +1,9 @@
 -- Each digit is read and passed; the number ends before a blank or at the text's end.
-use Rattle.std.proofs.Common.{◌≡◌, ◌+◌, ◌<◌, [], length, drop, Ok, Err, sym, refl, ap, ◌∙◌, arith}
+use Rattle.std.proofs.Common.{◌≡◌, ◌+◌, drop, Ok, Err, sym, ap, ◌∙◌}
 use Rattle.std.proofs.lemmas.List.{drop_all}
 use Rattle.std.proofs.lemmas.Result.{err_from_is_err_and, IfOk-from_err}
 use Rattle.stream.specs.Numerals.{after_numeral, number_on, numeral, read_value}
-use Rattle.stream.proofs.Lexing.{at_end, digit_passed, digit_read, fault_stays, nothing, number_ends, numeral_there, rest_begins}
+use Rattle.stream.proofs.Lexing.{digit_passed, digit_read, fault_stays, nothing, number_ends, numeral_there, rest_begins}
 use Rattle.stream.proofs.numbers.numeral.Goals as goal
 
 pub returns-then-at-text : goal.returns-then-at-text

@@ -1,10 +1,7 @@
-use Rattle.std.proofs.Common.{◌≡◌, ℕ, List, length, sym, refl, ap, ◌∙◌, subst, ap₂, subst₂}
-use Rattle.rdf.specs.declared.row.Row.{Row}
-use Rattle.rdf.specs.declared.triple.Triple.{Triple}
-use Rattle.history.specs.declared.step.Call.{Call}
+use Rattle.std.proofs.Common.{◌≡◌, List, length, sym, refl, ap, ◌∙◌, subst, ap₂, subst₂}
 use Rattle.history.specs.declared.step.Step.{Step}
 use Rattle.history.specs.Courses.{Course, account_of, history_of, joined}
-use Rattle.history.specs.Replies.{Leaves, Truthful, reading_since, rows_since}
+use Rattle.history.specs.Replies.{Truthful, reading_since, rows_since}
 use Rattle.history.proofs.LogLaws.{in_parts}
 use Rattle.history.proofs.opening.JoinedOpening.open.Goals as goal
 

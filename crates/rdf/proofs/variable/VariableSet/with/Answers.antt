@@ -1,5 +1,5 @@
 -- The bit of the new member is set, and the others stay.
-use Rattle.std.proofs.Common.{◌≡◌, ◌*◌, ◌%◌, ◌^◌, ◌≤◌, ◌&&◌, ◌||◌, eqb, sym, ap, ◌∙◌, ap₂, arith}
+use Rattle.std.proofs.Common.{◌≤◌, ◌&&◌, ◌||◌, eqb, sym, ap, ◌∙◌, arith}
 use lib.Bits.{bit_or}
 use Rattle.std.proofs.lemmas.Nat.{one_shl}
 use Rattle.std.proofs.lemmas.Bool.{leb-true}

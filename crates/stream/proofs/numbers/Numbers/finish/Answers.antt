@@ -1,9 +1,8 @@
 -- What is left behind the blanks is empty exactly where the text's end is reached.
-use Rattle.std.proofs.Common.{◌≡◌, true, false, length, drop, sym, ap, ◌∙◌}
+use Rattle.std.proofs.Common.{◌≡◌, true, false, drop, sym, ap, ◌∙◌}
 use Rattle.std.proofs.lemmas.List.{at_drop_more, drop_all}
 use Rattle.std.proofs.lemmas.Bool.{cond-true, cond-false}
 use Rattle.order.specs.Lists.{is_empty}
-use Rattle.stream.specs.Numerals.{after_blanks}
 use Rattle.stream.proofs.numbers.Numbers.finish.Goals as goal
 
 pub returns-then-self : goal.returns-then-self
