@@ -28,10 +28,10 @@ module _ {X : Type 0} {cmp : X → X → Ordering} (laws : Laws cmp) where
   pub ascending_cons : (x : X) (xs : List X) → under cmp x xs ≡ true → Ascending cmp xs → Ascending cmp (x ∷ xs)
   ascending_cons x xs h k = and_from _ _ h k
 
-  pub under_getD : (x d : X) (ys : List X) (i : ℕ) → under cmp x ys ≡ true → i < length ys → cmp x (get_or ys i d) ≡ Less
-  under_getD x d [] i h l = absurd (omega arith)
-  under_getD x d (y ∷ ys) zero h l = under_first x y ys h
-  under_getD x d (y ∷ ys) (suc i) h l = under_getD x d ys i (under_rest x y ys h) (omega arith)
+  pub under_get_or : (x d : X) (ys : List X) (i : ℕ) → under cmp x ys ≡ true → i < length ys → cmp x (get_or ys i d) ≡ Less
+  under_get_or x d [] i h l = absurd (omega arith)
+  under_get_or x d (y ∷ ys) zero h l = under_first x y ys h
+  under_get_or x d (y ∷ ys) (suc i) h l = under_get_or x d ys i (under_rest x y ys h) (omega arith)
 
   -- what is below x is below all that x is below
   pub under_below : (x y : X) (zs : List X) → cmp x y ≡ Less → under cmp y zs ≡ true → under cmp x zs ≡ true

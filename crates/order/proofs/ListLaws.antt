@@ -128,10 +128,10 @@ module _ {X : Type 0} where
   in_all P (x ∷ xs) h = (h x (inl refl), in_all P xs (λ y i. h y (inr i)))
 
   -- at every place, where the element that stands for none has it too
-  pub all_getD_else : (P : X → Type 0) (xs : List X) (i : ℕ) (d : X) → P d → All P xs → P (get_or xs i d)
-  all_getD_else P [] i d h k = h
-  all_getD_else P (x ∷ xs) zero d h k = k.0
-  all_getD_else P (x ∷ xs) (suc i) d h k = all_getD_else P xs i d h k.1
+  pub all_get_or_else : (P : X → Type 0) (xs : List X) (i : ℕ) (d : X) → P d → All P xs → P (get_or xs i d)
+  all_get_or_else P [] i d h k = h
+  all_get_or_else P (x ∷ xs) zero d h k = k.0
+  all_get_or_else P (x ∷ xs) (suc i) d h k = all_get_or_else P xs i d h k.1
 
   pub all_left : (P : X → Type 0) (xs ys : List X) → All P (xs ++ ys) → All P xs
   all_left P [] ys h = tt

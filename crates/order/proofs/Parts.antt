@@ -14,5 +14,5 @@ module _ {X : Type 0} where
   pub drop_count : (p : List X) (n k : ℕ) → k ≡ length (take n p) → drop k p ≡ drop n p
   drop_count p n k e = ap (drop k) (sym (take-append-drop n p)) ∙ drop_at (take n p) (drop n p) k (sym e)
 
-  pub getD_elements : (p : List X) (n i : ℕ) (d : X) → i < length (take n p) → get_or (take n p) i d ≡ get_or p i d
-  getD_elements p n i d h = sym (get_or_append_left (take n p) (drop n p) d i h) ∙ ap (λ l. get_or l i d) (take-append-drop n p)
+  pub get_or_elements : (p : List X) (n i : ℕ) (d : X) → i < length (take n p) → get_or (take n p) i d ≡ get_or p i d
+  get_or_elements p n i d h = sym (get_or_append_left (take n p) (drop n p) d i h) ∙ ap (λ l. get_or l i d) (take-append-drop n p)

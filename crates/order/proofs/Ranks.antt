@@ -6,7 +6,7 @@ use Rattle.std.specs.Ordering.{is_lt, is_eq, is_le}
 use Rattle.std.specs.List.{insert as inserted, remove, slice_get}
 use Rattle.order.specs.Order.{Laws}
 use Rattle.order.specs.Sets.{Ascending, holds, insert, without, above, rank}
-use Rattle.order.proofs.Ascents.{above_first, ascending_first, ascending_rest, holds_not_below, holds_not_under, under_getD, without_absent}
+use Rattle.order.proofs.Ascents.{above_first, ascending_first, ascending_rest, holds_not_below, holds_not_under, under_get_or, without_absent}
 use Rattle.order.proofs.Comparing.{by_order, by_bool, less_turned, greater_turned, equal_turned, not_less}
 
 module _ {X : Type 0} {cmp : X → X → Ordering} (laws : Laws cmp) where
@@ -22,7 +22,7 @@ module _ {X : Type 0} {cmp : X → X → Ordering} (laws : Laws cmp) where
   rank_past x d (y ∷ ys) zero h l e = rw e (omega arith)
   rank_past x d (y ∷ ys) (suc i) h l e =
       let within : i < length ys = omega arith in
-      let less : cmp y x ≡ Less = laws.trans y (get_or ys i d) x (under_getD laws y d ys i (ascending_first laws y ys h) within) e in
+      let less : cmp y x ≡ Less = laws.trans y (get_or ys i d) x (under_get_or laws y d ys i (ascending_first laws y ys h) within) e in
       let more = rank_past x d ys i (ascending_rest laws y ys h) within e in
       rw less (omega arith)
 

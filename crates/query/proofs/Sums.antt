@@ -49,11 +49,11 @@ sum_below_at f a (suc n) lt = ⊎_elim
     (λ ne. omega (arith, at_only_other f a n ne, sum_below_at f a n (omega arith)))
     (cases_eq a n)
 
-pub sumBy_same : {X : Type 0} (f g : X → ℕ) (p : X → Bool) → ((x : X) → p x ≡ true → f x ≡ g x) → (xs : List X) → every p xs ≡ true → sum_by f xs ≡ sum_by g xs
-sumBy_same f g p same [] h = refl
-sumBy_same f g p same (x ∷ xs) h =
+pub sum_by_same : {X : Type 0} (f g : X → ℕ) (p : X → Bool) → ((x : X) → p x ≡ true → f x ≡ g x) → (xs : List X) → every p xs ≡ true → sum_by f xs ≡ sum_by g xs
+sum_by_same f g p same [] h = refl
+sum_by_same f g p same (x ∷ xs) h =
     let both = and_parts (p x) (every p xs) h in
-    omega (arith, sum_by-cons f x xs, sum_by-cons g x xs, same x both.0, sumBy_same f g p same xs both.1)
+    omega (arith, sum_by-cons f x xs, sum_by-cons g x xs, same x both.0, sum_by_same f g p same xs both.1)
 
 -- one summand is no more than the sum, nor are two together
 pub sum_one : {X : Type 0} (f : X → ℕ) (xs : List X) (i : ℕ) (d : X) → i < length xs → f (get_or xs i d) ≤ sum_by f xs

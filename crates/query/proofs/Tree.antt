@@ -12,7 +12,7 @@ use Rattle.query.specs.Every.{every_below, every_from}
 use Rattle.query.specs.Rules.{named_once, names_below, names_earlier, times_in, times_named}
 use Rattle.query.specs.Sizes.{size_at, size_from, sizes, sizes_after}
 use Rattle.query.proofs.Facts.{every_below_at, names_below_more}
-use Rattle.query.proofs.Sums.{at_only, sum_below, sum_below_add, sum_below_at, sum_below_list, sum_below_none, sum_below_ones, sum_below_same, sumBy_same}
+use Rattle.query.proofs.Sums.{at_only, sum_below, sum_below_add, sum_below_at, sum_below_list, sum_below_none, sum_below_ones, sum_below_same, sum_by_same}
 
 -- what is known stays
 sizes_after_known : (known : List ℕ) (es : List Entry) (k : ℕ) → k < length known → get_or (sizes_after known es) k 0 ≡ get_or known k 0
@@ -30,7 +30,7 @@ sizes_after_at known (e ∷ es) zero d lt earlier =
     let next = known ++ size_from known e ∷ [] in
     let own : get_or (sizes_after next es) (length known) 0 ≡ size_from known e = sizes_after_known next es (length known) (omega (arith, length_push known (size_from known e))) ∙ get_or_push known (size_from known e) 0 (length known) refl in
     let parts : sum_by (λ c. get_or known c.at 0) (children_of e) ≡ sum_by (λ c. get_or (sizes_after next es) c.at 0) (children_of e) =
-    sumBy_same _ _ (λ c. ltb c.at (length known)) (λ c below. sym (sizes_after_known known (e ∷ es) c.at (ltb-true c.at (length known) below))) (children_of e)
+    sum_by_same _ _ (λ c. ltb c.at (length known)) (λ c below. sym (sizes_after_known known (e ∷ es) c.at (ltb-true c.at (length known) below))) (children_of e)
     (and_parts (names_below (length known) e) (every_from names_below (length known + 1) es) earlier).0 in
     rw add-zero (own ∙ ap (λ n. 1 + n) parts)
 sizes_after_at known (e ∷ es) (suc i) d lt earlier =
