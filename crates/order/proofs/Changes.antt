@@ -1,12 +1,12 @@
 -- What the first places of a slice hold after an insertion and after a removal: p is the slice before, q after, and the elements are the first n of p,
 -- or all of it where n is more. Assumes nothing.
-use Rattle.std.proofs.Common.{◌≡◌, ℕ, ◌+◌, ◌-◌, ◌<◌, ◌≤◌, true, false, List, ◌∷◌, ◌++◌, length, take, drop, Ordering, sym, ap, ◌∙◌, arith}
+use Rattle.std.proofs.Common.{◌≡◌, ℕ, ◌+◌, ◌-◌, ◌<◌, ◌≤◌, List, ◌∷◌, ◌++◌, length, take, drop, Ok, Err, Ordering, sym, ap, ◌∙◌, arith}
 use Rattle.std.specs.List.{insert as inserted, remove}
 use Rattle.std.proofs.lemmas.List.Edits.{length-insert, length-remove}
 use Rattle.std.proofs.lemmas.List.{drop-drop, take_at, drop_at}
 use Rattle.order.specs.Order.{Laws}
-use Rattle.order.specs.Sets.{Ascending, holds, insert, without, rank}
-use Rattle.order.proofs.Ranks.{insert_at_rank, without_at_rank}
+use Rattle.order.specs.Sets.{Ascending, insert, located, without}
+use Rattle.order.proofs.Ranks.{insert_at_rank, located_err, located_ok, without_at_rank}
 use Rattle.order.proofs.Parts.{take_count, drop_count}
 
 module _ {X : Type 0} where
@@ -27,10 +27,14 @@ module _ {X : Type 0} where
       let long : length xs ≡ len - 1 = omega (arith, length-remove (take n p) at (omega arith)) in
       (ap (take (len - 1)) whole ∙ take_at xs ys (len - 1) long, ap (drop (len - 1)) whole ∙ drop_at xs ys (len - 1) long)
 
--- at the place where x belongs the order stays
+-- at the place where a search ends the order stays
 module _ {X : Type 0} {cmp : X → X → Ordering} (laws : Laws cmp) where
-  pub inserting : (xs : List X) (at : ℕ) (x : X) → at ≡ rank cmp x xs → holds cmp x xs ≡ false → inserted xs at x ≡ insert cmp x xs
-  inserting xs at x r f = ap (λ i. inserted xs i x) r ∙ sym (insert_at_rank laws x xs f)
+  pub inserting : (xs : List X) (at : ℕ) (x : X) → Err at ≡ located cmp x xs → inserted xs at x ≡ insert cmp x xs
+  inserting xs at x e =
+      let found = located_err laws x xs at e in
+      ap (λ i. inserted xs i x) found.0 ∙ sym (insert_at_rank laws x xs found.1)
 
-  pub removing : (xs : List X) (at : ℕ) (x : X) → Ascending cmp xs → at ≡ rank cmp x xs → holds cmp x xs ≡ true → remove xs at ≡ without cmp x xs
-  removing xs at x h r f = ap (remove xs) r ∙ sym (without_at_rank laws x xs h f)
+  pub removing : (xs : List X) (at : ℕ) (x : X) → Ascending cmp xs → Ok at ≡ located cmp x xs → remove xs at ≡ without cmp x xs
+  removing xs at x h e =
+      let found = located_ok laws x xs at e in
+      ap (remove xs) found.0 ∙ sym (without_at_rank laws x xs h found.1)

@@ -1,43 +1,11 @@
 -- Total orders made from others: numbers, a part that tells the whole, two parts in turn, lists. Assumes nothing.
-use Rattle.std.proofs.Common.{◌≡◌, ℕ, ◌+◌, ◌<◌, ◌≤◌, List, [], ◌∷◌, length, get_or, drop, Ordering, Less, Equal, Greater, sym, refl, ap, ◌∙◌, ⊎_elim, arith}
-use Rattle.std.proofs.lemmas.List.{drop_more, drop_all, length-drop}
-use Rattle.std.proofs.lemmas.Bool.{lt-ltb, le-ltb, eq-eqb, ne_eqb, cases_order}
+use Rattle.std.proofs.Common.{◌≡◌, ℕ, zero, suc, min, List, [], ◌∷◌, length, drop, Ordering, Less, Equal, Greater, sym, refl, ◌∙◌, arith}
+use Rattle.std.proofs.lemmas.Bool.Decides.{nat_tests}
 use Rattle.std.specs.Ordering.{ordering_reverse, ordering_then}
 use Rattle.order.specs.Order.{Laws}
 use Rattle.order.specs.Lexical.{number_order, list_order}
 use Rattle.order.proofs.Comparing.{by_order, less_not_equal, less_not_greater, equal_not_greater, equal_left, equal_right}
-
-pub number_less : (a b : ℕ) → a < b → number_order a b ≡ Less
-number_less a b h = rw (lt-ltb a b h)
-
-pub number_equal : (a b : ℕ) → a ≡ b → number_order a b ≡ Equal
-number_equal a b e = rw (le-ltb a b (omega arith), eq-eqb a b e)
-
-pub number_greater : (a b : ℕ) → b < a → number_order a b ≡ Greater
-number_greater a b h = rw (le-ltb a b (omega arith), ne_eqb a b (omega arith))
-
-by_number : {G : Type 0} (a b : ℕ) → (a < b → G) → (a ≡ b → G) → (b < a → G) → G
-by_number a b l e g = ⊎_elim e (⊎_elim l g) (cases_order a b)
-
-number_from_less : (a b : ℕ) → number_order a b ≡ Less → a < b
-number_from_less a b h =
-    by_number a b (λ l. l) (λ e. less_not_equal _ h (number_equal a b e)) (λ l. less_not_greater _ h (number_greater a b l))
-
-number_from_equal : (a b : ℕ) → number_order a b ≡ Equal → a ≡ b
-number_from_equal a b h =
-    by_number a b (λ l. less_not_equal _ (number_less a b l) h) (λ e. e) (λ l. equal_not_greater _ h (number_greater a b l))
-
-pub number_laws : Laws number_order
-number_laws = record {
-  same = λ a. number_equal a a refl;
-  equal = number_from_equal;
-  flip = λ a b.
-      by_number a b
-      (λ l. number_greater b a l ∙ ap ordering_reverse (sym (number_less a b l)))
-      (λ e. number_equal b a (sym e) ∙ ap ordering_reverse (sym (number_equal a b e)))
-      (λ l. number_less b a l ∙ ap ordering_reverse (sym (number_greater a b l)));
-  trans = λ a b c h k. number_less a c (omega (arith, number_from_less a b h, number_from_less b c k));
-}
+pub use Rattle.order.specs.NumberLaws.{number_laws}
 
 -- an order of wholes by a part that tells the whole
 pub laws_by : {X Y : Type 0} {cmp : X → X → Ordering} → Laws cmp → (f : Y → X) → ((x y : Y) → f x ≡ f y → x ≡ y) → Laws (λ (x y : Y). cmp (f x) (f y))
@@ -123,27 +91,13 @@ module _ {X : Type 0} {cmp : X → X → Ordering} (laws : Laws cmp) where
   pub list_laws : Laws (list_order cmp)
   list_laws = record { same = list_same; equal = list_equal; flip = list_flip; trans = list_trans }
 
--- a loop over two lists: one place on, where x and y were read at i, and the three ends
-module _ {X : Type 0} (cmp : X → X → Ordering) (xs ys : List X) (i : ℕ) where
-  pub list_order_more : (x y : X) → i < length xs → i < length ys → x ≡ get_or xs i x → y ≡ get_or ys i y → list_order cmp (drop i xs) (drop i ys) ≡ ordering_then (cmp x y) (list_order cmp (drop (i + 1) xs) (drop (i + 1) ys))
-  list_order_more x y h k r s =
-      let front : drop i xs ≡ x ∷ drop (i + 1) xs = drop_more xs i x h ∙ ap (λ v. v ∷ drop (i + 1) xs) (sym r) in
-      let back : drop i ys ≡ y ∷ drop (i + 1) ys = drop_more ys i y k ∙ ap (λ v. v ∷ drop (i + 1) ys) (sym s) in
-      rw (front, back)
-
-  pub list_order_greater : i < length xs → length ys ≤ i → list_order cmp (drop i xs) (drop i ys) ≡ Greater
-  list_order_greater h k = rw (drop_all i ys k) (first_left (drop i xs) (simp length-drop (omega arith)))
-    where
-      first_left : (zs : List X) → 0 < length zs → list_order cmp zs [] ≡ Greater
-      first_left [] l = absurd (omega arith)
-      first_left (z ∷ zs) l = refl
-
-  pub list_order_less : length xs ≤ i → i < length ys → list_order cmp (drop i xs) (drop i ys) ≡ Less
-  list_order_less h k = rw (drop_all i xs h) (second_left (drop i ys) (simp length-drop (omega arith)))
-    where
-      second_left : (zs : List X) → 0 < length zs → list_order cmp [] zs ≡ Less
-      second_left [] l = absurd (omega arith)
-      second_left (z ∷ zs) l = refl
-
-  pub list_order_equal : length xs ≤ i → length ys ≤ i → list_order cmp (drop i xs) (drop i ys) ≡ Equal
-  list_order_equal h k = rw (drop_all i xs h, drop_all i ys k)
+-- the end of a loop over two lists that turns as often as both have an element
+pub list_order_rest : {X : Type 0} (cmp : X → X → Ordering) (xs ys : List X) (n : ℕ) → n ≡ min (length xs) (length ys) → number_order (length xs) (length ys) ≡ list_order cmp (drop n xs) (drop n ys)
+list_order_rest cmp [] [] n e = let z : n ≡ 0 = omega arith in rw z (grind (arith, nat_tests))
+list_order_rest cmp [] (y ∷ ys) n e = let z : n ≡ 0 = omega arith in rw z (grind (arith, nat_tests))
+list_order_rest cmp (x ∷ xs) [] n e = let z : n ≡ 0 = omega arith in rw z (grind (arith, nat_tests))
+list_order_rest cmp (x ∷ xs) (y ∷ ys) zero e = absurd (omega arith)
+list_order_rest cmp (x ∷ xs) (y ∷ ys) (suc n) e = next ∙ list_order_rest cmp xs ys n (omega arith)
+  where
+    next : number_order (suc (length xs)) (suc (length ys)) ≡ number_order (length xs) (length ys)
+    next = grind (arith, nat_tests)

@@ -1,11 +1,11 @@
 // A set in ascending order, in a slice that is lent to it.
-ghost use Rattle.std.specs.Prelude.{◌≡◌, ◌+◌, ◌<◌, ◌≤◌, true, [], ◌∷◌, ◌++◌, length, take, drop, replicate, if◌then◌else◌, Some, None};
+ghost use Rattle.std.specs.Prelude.{◌≡◌, ◌+◌, ◌<◌, ◌≤◌, [], ◌∷◌, ◌++◌, length, take, drop, replicate, if◌then◌else◌, Some, None};
 ghost use Rattle.std.specs.List.{insert, remove, slice_get};
-ghost use Rattle.order.specs.Sets.{Ascending, above as next, IsAbove, Located, holds, rank as place};
+ghost use Rattle.std.specs.List.Sorted.{IsSearchInRange};
+ghost use Rattle.order.specs.Sets.{Ascending, above as next, IsAbove, located, holds, rank as place};
 ghost use Rattle.order.specs.OrderedLists.{Enters, Leaves, Ordered, Puts, TakesOut, elements, spare};
 
 use crate::total::TotalOrder;
-use std::cmp::Ordering;
 
 // The first `len` of the places hold the elements, and the other places are spare. Each method keeps the elements strictly ascending
 // where they were so. Each may be called on a list whose elements are not: it ends and stays within the places.
@@ -16,7 +16,7 @@ pub struct OrderedList<'a, T> {
 }
 
 // What became of an insertion.
-#[derive(Clone, Copy)]
+#[derive(Clone, Copy, PartialEq, Eq, Debug)]
 pub enum Insertion {
     Made,
     // The element was there already.
@@ -25,51 +25,17 @@ pub enum Insertion {
     Full,
 }
 
-// How many of the first `len` elements come before the first that is not below x: all, where the last is below x, and else by halving.
-fn rank<T: TotalOrder + Copy>(places: &[T], len: usize, x: &T) -> usize
-    requires { len ≤ length places.now }
-    ensures within { result ≤ len }
-    ensures place { Ascending T.compare (take len places.now) → result ≡ place T.compare x.now (take len places.now) }
-{
-    if len > 0 {
-        if let Ordering::Less = places[len - 1].order(x) {
-            return len;
-        }
-    }
-    let mut low = 0;
-    let mut high = len;
-    while low < high {
-        let mid = low + (high - low) / 2;
-        match places[mid].order(x) {
-            Ordering::Less => low = mid + 1,
-            _ => high = mid,
-        }
-    }
-    low
-}
-
-// How many elements of a slice come before the first that is not below x.
+// How many elements of a slice come before the first that is not below x: all, where the last is below x, and else by halving.
 pub fn lower_bound<T: TotalOrder + Copy>(places: &[T], x: &T) -> usize
     ensures within { result ≤ length places.now }
     ensures place { Ascending T.compare places.now → result ≡ place T.compare x.now places.now }
 {
-    rank(places, places.len(), x)
-}
-
-// The place where x stands or belongs among the first `len` elements, and whether it stands there.
-fn position<T: TotalOrder + Copy>(places: &[T], len: usize, x: &T) -> (usize, bool)
-    requires { len ≤ length places.now }
-    ensures within { result.0 ≤ len }
-    ensures before { result.1 ≡ true → result.0 < len }
-    ensures located { Ascending T.compare (take len places.now) → Located T.compare x.now (take len places.now) result.0 result.1 }
-{
-    let at = rank(places, len, x);
-    if at < len {
-        if let Ordering::Equal = places[at].order(x) {
-            return (at, true);
+    if let Some(last) = places.last() {
+        if last.order(x).is_lt() {
+            return places.len();
         }
     }
-    (at, false)
+    places.partition_point(|y| y.order(x).is_lt())
 }
 
 // Moves the elements from `at` up to `len` one place up, and puts x at `at`.
@@ -77,11 +43,7 @@ fn insert_at<T: Copy>(places: &mut [T], at: usize, len: usize, x: T)
     requires { (at ≤ len) × (len < length places.old) }
     ensures { places.new ≡ insert (take len places.old) at x ++ drop (len + 1) places.old }
 {
-    let mut i = len;
-    while i > at {
-        places[i] = places[i - 1];
-        i -= 1;
-    }
+    places.copy_within(at..len, at + 1);
     places[at] = x;
 }
 
@@ -90,21 +52,15 @@ fn remove_at<T: Copy>(places: &mut [T], at: usize, len: usize, blank: T)
     requires { (at < len) × (len ≤ length places.old) }
     ensures { places.new ≡ remove (take len places.old) at ++ (blank ∷ drop len places.old) }
 {
-    let mut i = at;
-    while i + 1 < len {
-        places[i] = places[i + 1];
-        i += 1;
-    }
-    places[i] = blank;
+    places.copy_within(at + 1..len, at);
+    places[len - 1] = blank;
 }
 
 // Writes `blank` into every place.
 pub fn fill<T: Copy>(places: &mut [T], blank: T)
     ensures { places.new ≡ replicate (length places.old) blank }
 {
-    for place in places.iter_mut() {
-        *place = blank;
-    }
+    places.fill_with(|| blank);
 }
 
 impl<'a, T: TotalOrder + Copy> OrderedList<'a, T> {
@@ -164,39 +120,44 @@ impl<'a, T: TotalOrder + Copy> OrderedList<'a, T> {
         self.places.len().saturating_sub(self.len)
     }
 
+    // The elements, as they stand.
+    fn elements(&self) -> &[T]
+        ensures { result.now ≡ elements self.now }
+    {
+        &self.places[..self.len()]
+    }
+
     // The element at a place, counted from the least.
     pub fn get(&self, i: usize) -> Option<T>
         ensures { result ≡ slice_get (elements self.now) i }
     {
-        let places = &*self.places;
-        if i < self.len() {
-            Some(places[i])
-        } else {
-            None
-        }
+        self.elements().get(i).copied()
     }
 
-    // The place where x stands or belongs, and whether it stands there.
-    fn locate(&self, x: &T) -> (usize, bool)
-        ensures within { result.0 ≤ length (elements self.now) }
-        ensures before { result.1 ≡ true → result.0 < length (elements self.now) }
-        ensures located { Ordered T.compare self.now → Located T.compare x.now (elements self.now) result.0 result.1 }
+    // The place where x stands, or else the place where it belongs.
+    fn locate(&self, x: &T) -> Result<usize, usize>
+        ensures within { IsSearchInRange result (length (elements self.now)) }
+        ensures located { Ordered T.compare self.now → result ≡ located T.compare x.now (elements self.now) }
     {
-        position(self.places, self.len(), x)
+        let elements = self.elements();
+        let at = lower_bound(elements, x);
+        match elements.get(at) {
+            Some(y) if y.order(x).is_eq() => Ok(at),
+            _ => Err(at),
+        }
     }
 
     // Where x stands, counted from the least.
     pub fn find(&self, x: &T) -> Option<usize>
         ensures { Ordered T.compare self.now → result ≡ (if holds T.compare x.now (elements self.now) then Some (place T.compare x.now (elements self.now)) else None) }
     {
-        let (at, held) = self.locate(x);
-        if held { Some(at) } else { None }
+        self.locate(x).ok()
     }
 
     pub fn contains(&self, x: &T) -> bool
         ensures { Ordered T.compare self.now → result ≡ holds T.compare x.now (elements self.now) }
     {
-        self.locate(x).1
+        self.locate(x).is_ok()
     }
 
     // The least element above x.
@@ -204,8 +165,10 @@ impl<'a, T: TotalOrder + Copy> OrderedList<'a, T> {
         ensures value { Ordered T.compare self.now → result ≡ next T.compare x.now (elements self.now) }
         ensures least { Ordered T.compare self.now → IsAbove T.compare x.now (elements self.now) result }
     {
-        let (at, held) = self.locate(x);
-        if held { self.get(at + 1) } else { self.get(at) }
+        match self.locate(x) {
+            Ok(at) => self.get(at + 1),
+            Err(at) => self.get(at),
+        }
     }
 
     // Puts x in, where it is no element yet and a place is spare. Else nothing changes.
@@ -216,10 +179,9 @@ impl<'a, T: TotalOrder + Copy> OrderedList<'a, T> {
         ensures enters { Enters x self.old self.new result }
         ensures puts { Ordered T.compare self.old → Puts T.compare x self.old self.new result }
     {
-        let (at, held) = self.locate(&x);
-        if held {
+        let Err(at) = self.locate(&x) else {
             return Insertion::Held;
-        }
+        };
         let len = self.len();
         if len == self.places.len() {
             return Insertion::Full;
@@ -237,10 +199,9 @@ impl<'a, T: TotalOrder + Copy> OrderedList<'a, T> {
         ensures leaves { Leaves blank self.old self.new result }
         ensures takes { Ordered T.compare self.old → TakesOut T.compare x.now blank self.old self.new result }
     {
-        let (at, held) = self.locate(x);
-        if !held {
+        let Ok(at) = self.locate(x) else {
             return false;
-        }
+        };
         let len = self.len();
         remove_at(self.places, at, len, blank);
         self.len = len - 1;
