@@ -12,7 +12,7 @@ use Rattle.order.proofs.Ascents.{above_first, ascending_first, ascending_insert,
 use Rattle.order.proofs.SetOperations.{every_holds}
 
 pub none_some : {X : Type 0} (x : X) → None ≡ Some x → ⊥
-none_some x e = let z : ◌≡◌ {A = ℕ} 0 1 = cc in omega arith
+none_some x e = cc
 
 pub some_is : {X : Type 0} (x y : X) → Some x ≡ Some y → x ≡ y
 some_is x y e = cc

@@ -2,7 +2,7 @@
 pub mod Lists
 pub mod Order
 pub mod Lexical
-pub mod NumberLaws
+pub mod OrderLaws
 pub mod Sets
 pub mod OrderedLists
 pub mod SetLaws

@@ -3,7 +3,7 @@ ghost use Rattle.std.specs.Prelude.{◌≡◌};
 ghost use Rattle.std.specs.declared.cmp.Ordering.{Ordering as Three};
 ghost use Rattle.order.specs.Lexical.{list_order, number_order};
 ghost use Rattle.order.specs.Order.{Laws};
-ghost use Rattle.order.specs.NumberLaws.{number_laws};
+ghost use Rattle.order.specs.OrderLaws.{number_laws};
 
 use std::cmp::Ordering;
 
