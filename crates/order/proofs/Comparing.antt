@@ -1,6 +1,6 @@
 -- What the laws of a total order give at two and three elements. Assumes nothing.
 use Rattle.std.proofs.Common.{◌≡◌, Bool, true, false, ◌||◌, Ordering, Less, Equal, Greater, refl, ap, ◌∙◌}
-use Rattle.std.specs.Ordering.{is_lt, is_eq, is_le, ordering_reverse, ordering_then}
+use Rattle.std.specs.Ordering.{is_lt, is_eq, is_le, ordering_reverse}
 use Rattle.order.specs.Order.{Laws}
 
 -- a split on an answer, with the answer known
@@ -44,11 +44,6 @@ pub not_equal : (o : Ordering) → (o ≡ Equal → ⊥) → is_eq o ≡ false
 not_equal Less h = refl
 not_equal Equal h = absurd (h refl)
 not_equal Greater h = refl
-
-pub then_unequal : (o p : Ordering) → (o ≡ Equal → ⊥) → ordering_then o p ≡ o
-then_unequal Less p h = refl
-then_unequal Equal p h = absurd (h refl)
-then_unequal Greater p h = refl
 
 pub or_swap : (a b c : Bool) → (a || (b || c)) ≡ (b || (a || c))
 or_swap true true c = refl

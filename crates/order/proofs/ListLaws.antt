@@ -195,10 +195,6 @@ pub largest_append : (ks ls : List ℕ) → largest (ks ++ ls) ≡ max (largest 
 largest_append [] ls = omega arith
 largest_append (k ∷ ks) ls = let h : largest (ks ++ ls) ≡ max (largest ks) (largest ls) = largest_append ks ls in omega arith
 
--- a loop that adds the numbers for one element after another
-pub largest_push : {X : Type 0} (f : X → List ℕ) (xs : List X) (x : X) → largest (for_each f (xs ++ (x ∷ []))) ≡ max (largest (for_each f xs)) (largest (f x))
-largest_push f xs x = ap largest (each_push f xs x) ∙ largest_append (for_each f xs) (f x)
-
 -- a filter twice is the filter once, and over a list made at each element it is a filter at each
 pub kept_twice : {X : Type 0} (test : X → Bool) (xs : List X) → filter test (filter test xs) ≡ filter test xs
 kept_twice test [] = refl
