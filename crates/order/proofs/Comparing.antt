@@ -1,6 +1,6 @@
 -- What the laws of a total order give at two and three elements. Assumes nothing.
-use Rattle.std.proofs.Common.{◌≡◌, Bool, true, false, ◌||◌, Ordering, Less, Equal, Greater, sym, refl, ap, ◌∙◌, subst, true≢false}
-use Rattle.std.specs.Ordering.{is_lt, is_eq, is_le, ordering_reverse, ordering_then}
+use Rattle.std.proofs.Common.{◌≡◌, Bool, true, false, ◌||◌, Ordering, Less, Equal, Greater, refl, ap, ◌∙◌}
+use Rattle.std.specs.Ordering.{is_lt, is_eq, is_le, ordering_reverse}
 use Rattle.order.specs.Order.{Laws}
 
 -- a split on an answer, with the answer known
@@ -13,24 +13,14 @@ pub by_bool : {G : Type 0} (b : Bool) → (b ≡ true → G) → (b ≡ false �
 by_bool true t f = t refl
 by_bool false t f = f refl
 
-abbrev at_less : Ordering → Type 0
-at_less Less = Unit {0}
-at_less Equal = ⊥
-at_less Greater = ⊥
-
-abbrev at_equal : Ordering → Type 0
-at_equal Less = ⊥
-at_equal Equal = Unit {0}
-at_equal Greater = ⊥
-
 pub less_not_equal : {G : Type 0} (o : Ordering) → o ≡ Less → o ≡ Equal → G
-less_not_equal o l e = absurd (subst at_less (sym l ∙ e) tt)
+less_not_equal o l e = cc
 
 pub less_not_greater : {G : Type 0} (o : Ordering) → o ≡ Less → o ≡ Greater → G
-less_not_greater o l e = absurd (subst at_less (sym l ∙ e) tt)
+less_not_greater o l e = cc
 
 pub equal_not_greater : {G : Type 0} (o : Ordering) → o ≡ Equal → o ≡ Greater → G
-equal_not_greater o l e = absurd (subst at_equal (sym l ∙ e) tt)
+equal_not_greater o l e = cc
 
 pub less_from_test : (o : Ordering) → is_lt o ≡ true → o ≡ Less
 less_from_test Less h = refl
@@ -43,9 +33,7 @@ equal_from_test Equal h = refl
 equal_from_test Greater h = cc
 
 pub greater_not_le : {G : Type 0} (o : Ordering) → o ≡ Greater → is_le o ≡ true → G
-greater_not_le Less e h = less_not_greater Less refl e
-greater_not_le Equal e h = equal_not_greater Equal refl e
-greater_not_le Greater e h = absurd (true≢false (sym h))
+greater_not_le o e h = cc (rw e at h)
 
 pub not_less : (o : Ordering) → (o ≡ Less → ⊥) → is_lt o ≡ false
 not_less Less h = absurd (h refl)
@@ -56,11 +44,6 @@ pub not_equal : (o : Ordering) → (o ≡ Equal → ⊥) → is_eq o ≡ false
 not_equal Less h = refl
 not_equal Equal h = absurd (h refl)
 not_equal Greater h = refl
-
-pub then_unequal : (o p : Ordering) → (o ≡ Equal → ⊥) → ordering_then o p ≡ o
-then_unequal Less p h = refl
-then_unequal Equal p h = absurd (h refl)
-then_unequal Greater p h = refl
 
 pub or_swap : (a b c : Bool) → (a || (b || c)) ≡ (b || (a || c))
 or_swap true true c = refl

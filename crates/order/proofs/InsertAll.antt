@@ -1,7 +1,6 @@
 -- Shows what comes of putting the elements of one list into another, one after the other. Assumes nothing.
-use Rattle.std.proofs.Common.{◌≡◌, ℕ, ◌+◌, ◌<◌, ◌≤◌, ◌||◌, List, [], ◌∷◌, ◌++◌, length, get_or, take, Ordering, sym, refl, ap, ◌∙◌, arith}
+use Rattle.std.proofs.Common.{◌≡◌, ◌≤◌, ◌||◌, List, [], ◌∷◌, ◌++◌, length, Ordering, sym, refl, ap, ◌∙◌, arith}
 use mathlib.Core.Bool.{or_assoc, or-false}
-use Rattle.std.proofs.lemmas.List.{take_more}
 use Rattle.std.specs.Ordering.{is_eq}
 use Rattle.order.specs.Sets.{Ascending, ascend, holds, insert, insert_all}
 use Rattle.order.specs.Order.{Laws}
@@ -12,11 +11,6 @@ module _ {X : Type 0} {cmp : X → X → Ordering} (laws : Laws cmp) where
   pub insert_all_append : (vs ws ys : List X) → insert_all cmp (vs ++ ws) ys ≡ insert_all cmp ws (insert_all cmp vs ys)
   insert_all_append [] ws ys = refl
   insert_all_append (v ∷ vs) ws ys = insert_all_append vs ws (insert cmp v ys)
-
-  pub insert_all_more : (xs ys : List X) (i : ℕ) (x : X) → i < length xs → x ≡ get_or xs i x → insert_all cmp (take (i + 1) xs) ys ≡ insert cmp x (insert_all cmp (take i xs) ys)
-  insert_all_more xs ys i x h r =
-      let next : take (i + 1) xs ≡ take i xs ++ x ∷ [] = take_more xs i x h ∙ ap (λ v. take i xs ++ v ∷ []) (sym r) in
-      ap (λ l. insert_all cmp l ys) next ∙ insert_all_append (take i xs) (x ∷ []) ys
 
   pub length_insert_all : (xs ys : List X) → length ys ≤ length (insert_all cmp xs ys)
   length_insert_all [] ys = omega arith

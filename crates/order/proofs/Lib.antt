@@ -2,7 +2,6 @@
 pub mod Comparing
 pub mod Ascents
 pub mod Ranks
-pub mod Shifts
 pub mod Parts
 pub mod Changes
 pub mod InsertAll

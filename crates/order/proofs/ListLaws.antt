@@ -1,10 +1,11 @@
 -- Lists: membership beside what a test keeps, lists one after the other, a list made at each element, and the largest of some numbers.
 -- Assumes nothing.
-use Rattle.std.proofs.Common.{◌≡◌, ℕ, zero, suc, ◌<◌, ◌≤◌, max, Bool, true, false, cond, not, ◌||◌, ◌⊎◌, List, [], ◌∷◌, ◌++◌, map, get_or, take, drop, filter, sym, refl, ap, ◌∙◌, subst, ap₂, inl, inr, append_assoc, append-nil, arith}
-use Rattle.std.proofs.lemmas.Bool.{and_parts, cases_lt, false≢true}
+use Rattle.std.proofs.Common.{◌≡◌, ℕ, zero, suc, ◌≤◌, max, Bool, true, false, cond, not, ◌||◌, ◌⊎◌, List, [], ◌∷◌, ◌++◌, map, get_or, take, drop, filter, sym, refl, ap, ◌∙◌, subst, ap₂, inl, inr, append_assoc, append-nil, arith}
+use Rattle.std.proofs.lemmas.Bool.{and_parts, cases_lt, false≢true, or_left, or_right}
 use Rattle.std.proofs.lemmas.List.Elements.{filter-append}
 use Rattle.std.proofs.ByRecursion.{All-append}
 use Rattle.std.specs.List.{AllByRecursion as All}
+use Rattle.order.proofs.Comparing.{by_bool}
 use Rattle.order.specs.Lists.{◌∈◌, any, every, is_empty, for_each, largest}
 
 module _ {X : Type 0} where
@@ -44,53 +45,32 @@ module _ {X : Type 0} where
     -- a filter keeps the members that pass, and no others
     pub in_kept : (x : X) (xs : List X) → x ∈ filter test xs → (x ∈ xs) × (test x ≡ true)
     in_kept x [] h = absurd h
-    in_kept x (y ∷ ys) h = go (test y) refl h (in_kept x ys)
-      where
-        Rest : Type 0
-        Rest = x ∈ filter test ys → (x ∈ ys) × (test x ≡ true)
-
-        go : (b : Bool) → test y ≡ b → x ∈ cond b (y ∷ filter test ys) (filter test ys) → Rest → (x ∈ (y ∷ ys)) × (test x ≡ true)
-        go true e (inl k) rest = (inl k, ap test k ∙ e)
-        go true e (inr k) rest = (inr (rest k).0, (rest k).1)
-        go false e k rest = (inr (rest k).0, (rest k).1)
+    in_kept x (y ∷ ys) h =
+        by_bool (test y)
+        (λ b. elim (rw b at h) [
+          | inl e ↦ (inl e, ap test e ∙ b)
+          | inr i ↦ (inr (in_kept x ys i).0, (in_kept x ys i).1)
+        ])
+        (λ b. (inr (in_kept x ys (rw b at h)).0, (in_kept x ys (rw b at h)).1))
 
     pub kept_in : (x : X) (xs : List X) → x ∈ xs → test x ≡ true → x ∈ filter test xs
     kept_in x [] h t = absurd h
     kept_in x (y ∷ ys) (inl e) t = rw (kept_true y ys (ap test (sym e) ∙ t)) (inl e)
-    kept_in x (y ∷ ys) (inr h) t = go (test y) (kept_in x ys h t)
-      where
-        go : (b : Bool) → x ∈ filter test ys → x ∈ cond b (y ∷ filter test ys) (filter test ys)
-        go true k = inr k
-        go false k = k
+    kept_in x (y ∷ ys) (inr h) t = by_bool (test y) (λ b. rw b (inr (kept_in x ys h t))) (λ b. rw b (kept_in x ys h t))
 
     pub some_in : (xs : List X) → any test xs ≡ true → (x : X) × (x ∈ xs) × (test x ≡ true)
     some_in [] h = absurd (false≢true h)
-    some_in (x ∷ xs) h = go (test x) refl h (some_in xs)
-      where
-        Found : List X → Type 0
-        Found ys = (y : X) × (y ∈ ys) × (test y ≡ true)
-
-        go : (b : Bool) → test x ≡ b → (b || any test xs) ≡ true → (any test xs ≡ true → Found xs) → Found (x ∷ xs)
-        go true e k rest = (x, inl refl, e)
-        go false e k rest = let f : Found xs = rest k in (f.0, inr f.1, f.2)
+    some_in (x ∷ xs) h = by_bool (test x) (λ b. (x, inl refl, b)) (λ b. let f = some_in xs (rw b at h) in (f.0, inr f.1, f.2))
 
     pub in_some : (x : X) (xs : List X) → x ∈ xs → test x ≡ true → any test xs ≡ true
     in_some x [] h t = absurd h
-    in_some x (y ∷ ys) (inl e) t = ap (λ b. b || any test ys) (ap test (sym e) ∙ t)
-    in_some x (y ∷ ys) (inr h) t = go (test y) (in_some x ys h t)
-      where
-        go : (b : Bool) → any test ys ≡ true → (b || any test ys) ≡ true
-        go true k = refl
-        go false k = k
+    in_some x (y ∷ ys) (inl e) t = or_left _ _ (ap test (sym e) ∙ t)
+    in_some x (y ∷ ys) (inr h) t = or_right _ _ (in_some x ys h t)
 
     -- none passes exactly if nothing is kept
     pub none_kept : (xs : List X) → not (any test xs) ≡ is_empty (filter test xs)
     none_kept [] = refl
-    none_kept (x ∷ xs) = go (test x) (none_kept xs)
-      where
-        go : (b : Bool) → not (any test xs) ≡ is_empty (filter test xs) → not (b || any test xs) ≡ is_empty (cond b (x ∷ filter test xs) (filter test xs))
-        go true h = refl
-        go false h = h
+    none_kept (x ∷ xs) = by_bool (test x) (λ b. rw b) (λ b. rw b (none_kept xs))
 
   pub kept_same : (f g : X → Bool) (xs : List X) → ((x : X) → x ∈ xs → f x ≡ g x) → filter f xs ≡ filter g xs
   kept_same f g [] h = refl
@@ -103,14 +83,10 @@ module _ {X : Type 0} where
   -- two filters in either order
   pub kept_swap : (f g : X → Bool) (xs : List X) → filter f (filter g xs) ≡ filter g (filter f xs)
   kept_swap f g [] = refl
-  kept_swap f g (x ∷ xs) = go (f x) (g x) refl refl (kept_swap f g xs)
-    where
-      go : (a b : Bool) → f x ≡ a → g x ≡ b → filter f (filter g xs) ≡ filter g (filter f xs)
-          → filter f (cond b (x ∷ filter g xs) (filter g xs)) ≡ filter g (cond a (x ∷ filter f xs) (filter f xs))
-      go true true d e h = kept_true f x (filter g xs) d ∙ (ap (λ zs. x ∷ zs) h ∙ sym (kept_true g x (filter f xs) e))
-      go true false d e h = h ∙ sym (kept_false g x (filter f xs) e)
-      go false true d e h = kept_false f x (filter g xs) d ∙ h
-      go false false d e h = h
+  kept_swap f g (x ∷ xs) =
+      by_bool (f x)
+      (λ a. by_bool (g x) (λ b. simp (a, b, kept_swap f g xs)) (λ b. simp (a, b) (kept_swap f g xs)))
+      (λ a. by_bool (g x) (λ b. simp (a, b) (kept_swap f g xs)) (λ b. simp (a, b) (kept_swap f g xs)))
 
   pub any_same : (f g : X → Bool) (xs : List X) → ((x : X) → f x ≡ g x) → any f xs ≡ any g xs
   any_same f g [] h = refl
@@ -149,14 +125,10 @@ module _ {X Y : Type 0} where
 
   pub each_in : (f : X → List Y) (y : Y) (xs : List X) → y ∈ for_each f xs → (x : X) × (x ∈ xs) × (y ∈ f x)
   each_in f y [] h = absurd h
-  each_in f y (x ∷ xs) h = go (in_either y (f x) (for_each f xs) h) (each_in f y xs)
-    where
-      From : List X → Type 0
-      From zs = (z : X) × (z ∈ zs) × (y ∈ f z)
-
-      go : (y ∈ f x) ⊎ (y ∈ for_each f xs) → (y ∈ for_each f xs → From xs) → From (x ∷ xs)
-      go (inl k) rest = (x, inl refl, k)
-      go (inr k) rest = let r : From xs = rest k in (r.0, inr r.1, r.2)
+  each_in f y (x ∷ xs) h = elim (in_either y (f x) (for_each f xs) h) [
+    | inl k ↦ (x, inl refl, k)
+    | inr k ↦ (let r = each_in f y xs k in (r.0, inr r.1, r.2))
+  ]
 
   pub in_map : (f : X → Y) (x : X) (xs : List X) → x ∈ xs → f x ∈ map f xs
   in_map f x [] h = absurd h
@@ -170,12 +142,7 @@ module _ {X Y : Type 0} where
 
   pub kept_map : (test : Y → Bool) (f : X → Y) (xs : List X) → filter test (map f xs) ≡ map f (filter (λ x. test (f x)) xs)
   kept_map test f [] = refl
-  kept_map test f (x ∷ xs) = go (test (f x)) (kept_map test f xs)
-    where
-      go : (b : Bool) → filter test (map f xs) ≡ map f (filter (λ x. test (f x)) xs)
-          → cond b (f x ∷ filter test (map f xs)) (filter test (map f xs)) ≡ map f (cond b (x ∷ filter (λ x. test (f x)) xs) (filter (λ x. test (f x)) xs))
-      go true h = ap (λ ys. f x ∷ ys) h
-      go false h = h
+  kept_map test f (x ∷ xs) = by_bool (test (f x)) (λ b. rw b (ap (λ l. f x ∷ l) (kept_map test f xs))) (λ b. rw b (kept_map test f xs))
 
   pub each_same : (f g : X → List Y) (xs : List X) → ((x : X) → f x ≡ g x) → for_each f xs ≡ for_each g xs
   each_same f g [] h = refl
@@ -184,12 +151,7 @@ module _ {X Y : Type 0} where
   -- the same at the elements that pass is the same over what is kept
   pub each_kept : (test : X → Bool) (f g : X → List Y) (xs : List X) → ((x : X) → test x ≡ true → f x ≡ g x) → for_each f (filter test xs) ≡ for_each g (filter test xs)
   each_kept test f g [] h = refl
-  each_kept test f g (x ∷ xs) h = go (test x) refl (each_kept test f g xs h)
-    where
-      go : (b : Bool) → test x ≡ b → for_each f (filter test xs) ≡ for_each g (filter test xs)
-          → for_each f (cond b (x ∷ filter test xs) (filter test xs)) ≡ for_each g (cond b (x ∷ filter test xs) (filter test xs))
-      go true e k = ap₂ ◌++◌ (h x e) k
-      go false e k = k
+  each_kept test f g (x ∷ xs) h = by_bool (test x) (λ b. rw b (ap₂ ◌++◌ (h x b) (each_kept test f g xs h))) (λ b. rw b (each_kept test f g xs h))
 
   pub each_append : (f : X → List Y) (xs ys : List X) → for_each f (xs ++ ys) ≡ for_each f xs ++ for_each f ys
   each_append f [] ys = refl
@@ -216,13 +178,10 @@ in_largest k (x ∷ ks) (inr i) = let h : k ≤ largest ks = in_largest k ks i i
 
 pub largest_in : (k : ℕ) (ks : List ℕ) → largest (k ∷ ks) ∈ (k ∷ ks)
 largest_in k [] = inl (omega arith)
-largest_in k (x ∷ ks) = go (cases_lt k (largest (x ∷ ks))) (largest_in x ks)
-  where
-    go : (k < largest (x ∷ ks)) ⊎ (largest (x ∷ ks) ≤ k) → largest (x ∷ ks) ∈ (x ∷ ks) → max k (largest (x ∷ ks)) ∈ (k ∷ (x ∷ ks))
-    go (inl h) i =
-        let e : max k (largest (x ∷ ks)) ≡ largest (x ∷ ks) = omega arith in
-        inr (subst (λ n. n ∈ (x ∷ ks)) (sym e) i)
-    go (inr h) i = inl (omega arith)
+largest_in k (x ∷ ks) = elim (cases_lt k (largest (x ∷ ks))) [
+  | inl h ↦ (let e : largest (k ∷ x ∷ ks) ≡ largest (x ∷ ks) = omega arith in inr (subst (λ n. n ∈ (x ∷ ks)) (sym e) (largest_in x ks)))
+  | inr h ↦ inl (omega arith)
+]
 
 -- the largest is no more than n exactly where each is
 pub largest_bound : (n : ℕ) (ks : List ℕ) → All (λ k. k ≤ n) ks → largest ks ≤ n
@@ -236,18 +195,10 @@ pub largest_append : (ks ls : List ℕ) → largest (ks ++ ls) ≡ max (largest 
 largest_append [] ls = omega arith
 largest_append (k ∷ ks) ls = let h : largest (ks ++ ls) ≡ max (largest ks) (largest ls) = largest_append ks ls in omega arith
 
--- a loop that adds the numbers for one element after another
-pub largest_push : {X : Type 0} (f : X → List ℕ) (xs : List X) (x : X) → largest (for_each f (xs ++ (x ∷ []))) ≡ max (largest (for_each f xs)) (largest (f x))
-largest_push f xs x = ap largest (each_push f xs x) ∙ largest_append (for_each f xs) (f x)
-
 -- a filter twice is the filter once, and over a list made at each element it is a filter at each
 pub kept_twice : {X : Type 0} (test : X → Bool) (xs : List X) → filter test (filter test xs) ≡ filter test xs
 kept_twice test [] = refl
-kept_twice test (x ∷ xs) = go (test x) refl (kept_twice test xs)
-  where
-    go : (b : Bool) → test x ≡ b → filter test (filter test xs) ≡ filter test xs → filter test (cond b (x ∷ filter test xs) (filter test xs)) ≡ cond b (x ∷ filter test xs) (filter test xs)
-    go true e h = kept_true test x (filter test xs) e ∙ ap (λ zs. x ∷ zs) h
-    go false e h = h
+kept_twice test (x ∷ xs) = by_bool (test x) (λ b. simp (b, kept_twice test xs)) (λ b. rw b (kept_twice test xs))
 
 pub kept_each : {X Y : Type 0} (test : Y → Bool) (f : X → List Y) (xs : List X) → filter test (for_each f xs) ≡ for_each (λ x. filter test (f x)) xs
 kept_each test f [] = refl

@@ -1,7 +1,7 @@
 -- Membership in sets as strictly ascending lists: insertion, the set of a list, filters, and that a set is told by its members.
 -- Assumes nothing.
 use Rattle.std.proofs.Common.{◌≡◌, ◌≤◌, Bool, true, false, ◌&&◌, ◌||◌, ◌⊎◌, List, [], ◌∷◌, ◌++◌, length, filter, Ordering, sym, refl, ap, ◌∙◌, subst, inl, inr, append_assoc, append-nil, le_trans, le_refl}
-use Rattle.std.proofs.lemmas.Bool.{false≢true}
+use Rattle.std.proofs.lemmas.Bool.{false≢true, or_cases, or_right}
 use Rattle.std.specs.Ordering.{is_eq}
 use Rattle.order.specs.Order.{Laws}
 use Rattle.order.specs.Lists.{◌∈◌, is_empty}
@@ -10,25 +10,16 @@ use Rattle.order.proofs.Comparing.{by_order, by_bool, equal_from_test}
 use Rattle.order.proofs.Ascents.{holds_first, holds_insert, holds_kept, holds_ascend, ascending_ascend, ascending_insert, ascending_kept, same_members, length_insert_ge}
 use Rattle.order.proofs.ListLaws.{in_left, in_right, in_either}
 
--- an or is true by one side
-or_either : (a b : Bool) → (a || b) ≡ true → (a ≡ true) ⊎ (b ≡ true)
-or_either true b h = inl refl
-or_either false b h = inr h
-
-or_second : (a b : Bool) → b ≡ true → (a || b) ≡ true
-or_second true b h = refl
-or_second false b h = h
-
 module _ {X : Type 0} {cmp : X → X → Ordering} (laws : Laws cmp) where
   -- the test of membership tells the members
   pub in_holds : (x : X) (xs : List X) → x ∈ xs → holds cmp x xs ≡ true
   in_holds x [] i = absurd i
   in_holds x (y ∷ ys) (inl e) = subst (λ z. holds cmp x (z ∷ ys) ≡ true) e (holds_first laws x ys)
-  in_holds x (y ∷ ys) (inr i) = or_second (is_eq (cmp x y)) (holds cmp x ys) (in_holds x ys i)
+  in_holds x (y ∷ ys) (inr i) = or_right (is_eq (cmp x y)) (holds cmp x ys) (in_holds x ys i)
 
   pub holds_in : (x : X) (xs : List X) → holds cmp x xs ≡ true → x ∈ xs
   holds_in x [] h = absurd (false≢true h)
-  holds_in x (y ∷ ys) h = elim (or_either (is_eq (cmp x y)) (holds cmp x ys) h) [
+  holds_in x (y ∷ ys) h = elim (or_cases (is_eq (cmp x y)) (holds cmp x ys) h) [
     | inl e ↦ inl (laws.equal x y (equal_from_test (cmp x y) e))
     | inr k ↦ inr (holds_in x ys k)
   ]
@@ -51,14 +42,14 @@ module _ {X : Type 0} {cmp : X → X → Ordering} (laws : Laws cmp) where
   -- insertion adds the one member
   pub insert_in : (z x : X) (ys : List X) → z ∈ insert cmp x ys → (z ≡ x) ⊎ (z ∈ ys)
   insert_in z x ys i =
-      elim (or_either (is_eq (cmp z x)) (holds cmp z ys) (sym (holds_insert laws z x ys) ∙ in_holds z (insert cmp x ys) i)) [
+      elim (or_cases (is_eq (cmp z x)) (holds cmp z ys) (sym (holds_insert laws z x ys) ∙ in_holds z (insert cmp x ys) i)) [
         | inl e ↦ inl (laws.equal z x (equal_from_test (cmp z x) e))
         | inr k ↦ inr (holds_in z ys k)
       ]
 
   pub in_rest : (z x : X) (ys : List X) → z ∈ ys → z ∈ insert cmp x ys
   in_rest z x ys i =
-      holds_in z (insert cmp x ys) (holds_insert laws z x ys ∙ or_second (is_eq (cmp z x)) (holds cmp z ys) (in_holds z ys i))
+      holds_in z (insert cmp x ys) (holds_insert laws z x ys ∙ or_right (is_eq (cmp z x)) (holds cmp z ys) (in_holds z ys i))
 
   pub in_insert : (x : X) (ys : List X) → x ∈ insert cmp x ys
   in_insert x ys =

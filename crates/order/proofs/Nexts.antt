@@ -1,18 +1,16 @@
 -- Shows what the least member above an element is after insertion, in a union and in a difference, that it comes nearer to the end with each
 -- step, and that one look above tells membership. Assumes nothing.
-use Rattle.std.proofs.Common.{◌≡◌, ℕ, zero, suc, ◌<◌, ◌≤◌, Bool, true, false, cond, not, List, [], ◌∷◌, Some, None, Option, Ordering, Less, Greater, sym, refl, ap, ◌∙◌, true≢false, arith}
+use Rattle.std.proofs.Common.{◌≡◌, ℕ, zero, suc, ◌<◌, ◌≤◌, true, false, cond, not, List, [], ◌∷◌, Some, None, Option, Ordering, Less, Greater, sym, refl, ap, ◌∙◌, true≢false, arith}
 use Rattle.std.proofs.lemmas.Bool.{both_ways, not-false, not-true}
 use Rattle.std.specs.List.{slice_get}
 use Rattle.std.specs.Ordering.{is_eq, is_le, is_lt}
 use Rattle.order.specs.Order.{Laws}
-use Rattle.order.specs.Lists.{every}
 use Rattle.order.specs.Sets.{Ascending, above, difference, holds, insert, insert_all, lesser, under}
 use Rattle.order.proofs.Comparing.{by_bool, by_order, equal_turned, greater_turned, less_from_test, less_turned}
 use Rattle.order.proofs.Ascents.{above_first, ascending_first, ascending_insert, ascending_rest, holds_first, holds_not_under, under_below, under_first, under_kept, under_rest}
-use Rattle.order.proofs.SetOperations.{every_holds}
 
 pub none_some : {X : Type 0} (x : X) → None ≡ Some x → ⊥
-none_some x e = let z : ◌≡◌ {A = ℕ} 0 1 = cc in omega arith
+none_some x e = cc
 
 pub some_is : {X : Type 0} (x y : X) → Some x ≡ Some y → x ≡ y
 some_is x y e = cc
@@ -134,9 +132,6 @@ module _ {X : Type 0} {cmp : X → X → Ordering} (laws : Laws cmp) where
       by_bool (is_lt (cmp a y))
       (λ ay. ap (λ v. holds cmp v (y ∷ ys)) (some_is x y (rw ay at e)) ∙ holds_first laws y ys)
       (λ ay. by_bool (is_eq (cmp x y)) (λ b. rw b) (λ b. rw b (holds_above a x ys (rw ay at e))))
-
-  pub every_above : (test : X → Bool) (a x : X) (s : List X) → every test s ≡ true → Some x ≡ above cmp a s → test x ≡ true
-  every_above test a x s h e = every_holds laws test x s h (holds_above a x s e)
 
   pub under_above : (z a x : X) (s : List X) → under cmp z s ≡ true → Some x ≡ above cmp a s → is_lt (cmp x z) ≡ false
   under_above z a x s h e =

@@ -1,57 +1,22 @@
 -- Total orders made from others: numbers, a part that tells the whole, two parts in turn, lists. Assumes nothing.
-use Rattle.std.proofs.Common.{◌≡◌, ℕ, ◌+◌, ◌<◌, ◌≤◌, List, [], ◌∷◌, length, get_or, drop, Ordering, Less, Equal, Greater, sym, refl, ap, ◌∙◌, ⊎_elim, arith}
-use Rattle.std.proofs.lemmas.List.{drop_more, drop_all, length-drop}
-use Rattle.std.proofs.lemmas.Bool.{lt-ltb, le-ltb, eq-eqb, ne_eqb, cases_order}
-use Rattle.std.specs.Ordering.{ordering_reverse, ordering_then}
+use Rattle.std.proofs.Common.{◌≡◌, ℕ, zero, suc, min, List, [], ◌∷◌, length, drop, Ordering, Less, Equal, Greater, refl, ap, ◌∙◌, subst, arith}
+use Rattle.std.specs.Cmp.{IsTotalOrder}
+use Rattle.std.specs.Cmp.Lexicographic.{slice_cmp}
+use Rattle.std.specs.Ordering.{ordering_then}
+use Rattle.std.proofs.lemmas.Bool.Decides.{nat_tests}
+use Rattle.std.proofs.lemmas.Cmp.{lists_total, on_total, then_total}
 use Rattle.order.specs.Order.{Laws}
 use Rattle.order.specs.Lexical.{number_order, list_order}
-use Rattle.order.proofs.Comparing.{by_order, less_not_equal, less_not_greater, equal_not_greater, equal_left, equal_right}
+use Rattle.order.specs.OrderLaws.{laws_from}
+use Rattle.order.proofs.Comparing.{equal_left, equal_not_greater, less_not_equal}
+pub use Rattle.order.specs.OrderLaws.{number_laws}
 
-pub number_less : (a b : ℕ) → a < b → number_order a b ≡ Less
-number_less a b h = rw (lt-ltb a b h)
-
-pub number_equal : (a b : ℕ) → a ≡ b → number_order a b ≡ Equal
-number_equal a b e = rw (le-ltb a b (omega arith), eq-eqb a b e)
-
-pub number_greater : (a b : ℕ) → b < a → number_order a b ≡ Greater
-number_greater a b h = rw (le-ltb a b (omega arith), ne_eqb a b (omega arith))
-
-by_number : {G : Type 0} (a b : ℕ) → (a < b → G) → (a ≡ b → G) → (b < a → G) → G
-by_number a b l e g = ⊎_elim e (⊎_elim l g) (cases_order a b)
-
-number_from_less : (a b : ℕ) → number_order a b ≡ Less → a < b
-number_from_less a b h =
-    by_number a b (λ l. l) (λ e. less_not_equal _ h (number_equal a b e)) (λ l. less_not_greater _ h (number_greater a b l))
-
-number_from_equal : (a b : ℕ) → number_order a b ≡ Equal → a ≡ b
-number_from_equal a b h =
-    by_number a b (λ l. less_not_equal _ (number_less a b l) h) (λ e. e) (λ l. equal_not_greater _ h (number_greater a b l))
-
-pub number_laws : Laws number_order
-number_laws = record {
-  same = λ a. number_equal a a refl;
-  equal = number_from_equal;
-  flip = λ a b.
-      by_number a b
-      (λ l. number_greater b a l ∙ ap ordering_reverse (sym (number_less a b l)))
-      (λ e. number_equal b a (sym e) ∙ ap ordering_reverse (sym (number_equal a b e)))
-      (λ l. number_less b a l ∙ ap ordering_reverse (sym (number_greater a b l)));
-  trans = λ a b c h k. number_less a c (omega (arith, number_from_less a b h, number_from_less b c k));
-}
+total : {X : Type 0} {cmp : X → X → Ordering} → Laws cmp → IsTotalOrder cmp
+total laws = record { antisymm = λ x y. laws.flip y x; trans = laws.trans; congr = equal_left laws }
 
 -- an order of wholes by a part that tells the whole
 pub laws_by : {X Y : Type 0} {cmp : X → X → Ordering} → Laws cmp → (f : Y → X) → ((x y : Y) → f x ≡ f y → x ≡ y) → Laws (λ (x y : Y). cmp (f x) (f y))
-laws_by laws f tells = record {
-  same = λ x. laws.same (f x);
-  equal = λ x y h. tells x y (laws.equal (f x) (f y) h);
-  flip = λ x y. laws.flip (f x) (f y);
-  trans = λ x y z. laws.trans (f x) (f y) (f z);
-}
-
-then_reversed : (o p : Ordering) → ordering_then (ordering_reverse o) (ordering_reverse p) ≡ ordering_reverse (ordering_then o p)
-then_reversed Less p = refl
-then_reversed Equal p = refl
-then_reversed Greater p = refl
+laws_by laws f tells = laws_from (on_total f (total laws)) (λ x y h. tells x y (laws.equal (f x) (f y) h))
 
 then_equal_first : (o p : Ordering) → ordering_then o p ≡ Equal → o ≡ Equal
 then_equal_first Less p h = h
@@ -63,39 +28,16 @@ then_equal_second Less p h = less_not_equal Less refl h
 then_equal_second Equal p h = h
 then_equal_second Greater p h = equal_not_greater Greater h refl
 
--- two comparisons in turn, over which less than less is less
-then_trans : {X : Type 0} {cmp : X → X → Ordering} → Laws cmp → (x y z : X) (o p q : Ordering) → (o ≡ Less → p ≡ Less → q ≡ Less) → ordering_then (cmp x y) o ≡ Less → ordering_then (cmp y z) p ≡ Less → ordering_then (cmp x z) q ≡ Less
-then_trans {cmp = cmp} laws x y z o p q t h k =
-    by_order (cmp x y)
-    (λ e.
-    by_order (cmp y z)
-    (λ f. rw (laws.trans x y z e f))
-    (λ f. rw (sym (equal_right laws y z x f) ∙ e))
-    (λ f. less_not_greater _ (rw f at k) refl))
-    (λ e.
-    by_order (cmp y z)
-    (λ f. rw (equal_left laws x y z e ∙ f))
-    (λ f. rw (equal_left laws x y z e ∙ f) (t (rw e at h) (rw f at k)))
-    (λ f. less_not_greater _ (rw f at k) refl))
-    (λ e. less_not_greater _ (rw e at h) refl)
-
 -- two parts in turn
 pub laws_then : {X Y : Type 0} {cmp : X → X → Ordering} {dmp : Y → Y → Ordering} → Laws cmp → Laws dmp → Laws (λ (x y : X × Y). ordering_then (cmp x.0 y.0) (dmp x.1 y.1))
-laws_then {cmp = cmp} {dmp = dmp} first second = record {
-  same = λ x. rw (first.same x.0) (second.same x.1);
-  equal = λ x y h.
-      let a = first.equal x.0 y.0 (then_equal_first (cmp x.0 y.0) (dmp x.1 y.1) h) in
-      let b = second.equal x.1 y.1 (then_equal_second (cmp x.0 y.0) (dmp x.1 y.1) h) in
-      λ i. (a i, b i);
-  flip = λ x y. rw (first.flip x.0 y.0, second.flip x.1 y.1) (then_reversed (cmp x.0 y.0) (dmp x.1 y.1));
-  trans = λ x y z. then_trans first x.0 y.0 z.0 (dmp x.1 y.1) (dmp y.1 z.1) (dmp x.1 z.1) (second.trans x.1 y.1 z.1);
-}
+laws_then {X} {Y} {cmp} {dmp} first second =
+    laws_from (then_total (on_total (λ (x : X × Y). x.0) (total first)) (on_total (λ (x : X × Y). x.1) (total second)))
+    (λ x y h.
+    let a = first.equal x.0 y.0 (then_equal_first (cmp x.0 y.0) (dmp x.1 y.1) h) in
+    let b = second.equal x.1 y.1 (then_equal_second (cmp x.0 y.0) (dmp x.1 y.1) h) in
+    λ i. (a i, b i))
 
 module _ {X : Type 0} {cmp : X → X → Ordering} (laws : Laws cmp) where
-  list_same : (xs : List X) → list_order cmp xs xs ≡ Equal
-  list_same [] = refl
-  list_same (x ∷ xs) = rw (laws.same x) (list_same xs)
-
   list_equal : (xs ys : List X) → list_order cmp xs ys ≡ Equal → xs ≡ ys
   list_equal [] [] h = refl
   list_equal [] (y ∷ ys) h = less_not_equal Less refl h
@@ -105,45 +47,22 @@ module _ {X : Type 0} {cmp : X → X → Ordering} (laws : Laws cmp) where
       let b = list_equal xs ys (then_equal_second (cmp x y) (list_order cmp xs ys) h) in
       cc
 
-  list_flip : (xs ys : List X) → list_order cmp ys xs ≡ ordering_reverse (list_order cmp xs ys)
-  list_flip [] [] = refl
-  list_flip [] (y ∷ ys) = refl
-  list_flip (x ∷ xs) [] = refl
-  list_flip (x ∷ xs) (y ∷ ys) = rw (laws.flip x y, list_flip xs ys) (then_reversed (cmp x y) (list_order cmp xs ys))
-
-  list_trans : (xs ys zs : List X) → list_order cmp xs ys ≡ Less → list_order cmp ys zs ≡ Less → list_order cmp xs zs ≡ Less
-  list_trans [] [] zs h k = less_not_equal Less refl (sym h)
-  list_trans [] (y ∷ ys) [] h k = less_not_greater Greater k refl
-  list_trans [] (y ∷ ys) (z ∷ zs) h k = refl
-  list_trans (x ∷ xs) [] zs h k = less_not_greater Greater h refl
-  list_trans (x ∷ xs) (y ∷ ys) [] h k = less_not_greater Greater k refl
-  list_trans (x ∷ xs) (y ∷ ys) (z ∷ zs) h k =
-      then_trans laws x y z (list_order cmp xs ys) (list_order cmp ys zs) (list_order cmp xs zs) (list_trans xs ys zs) h k
+  as_slices : (xs ys : List X) → slice_cmp cmp xs ys ≡ list_order cmp xs ys
+  as_slices [] [] = refl
+  as_slices [] (y ∷ ys) = refl
+  as_slices (x ∷ xs) [] = refl
+  as_slices (x ∷ xs) (y ∷ ys) = ap (ordering_then (cmp x y)) (as_slices xs ys)
 
   pub list_laws : Laws (list_order cmp)
-  list_laws = record { same = list_same; equal = list_equal; flip = list_flip; trans = list_trans }
+  list_laws = laws_from (subst IsTotalOrder (λ i xs ys. as_slices xs ys i) (lists_total (total laws))) list_equal
 
--- a loop over two lists: one place on, where x and y were read at i, and the three ends
-module _ {X : Type 0} (cmp : X → X → Ordering) (xs ys : List X) (i : ℕ) where
-  pub list_order_more : (x y : X) → i < length xs → i < length ys → x ≡ get_or xs i x → y ≡ get_or ys i y → list_order cmp (drop i xs) (drop i ys) ≡ ordering_then (cmp x y) (list_order cmp (drop (i + 1) xs) (drop (i + 1) ys))
-  list_order_more x y h k r s =
-      let front : drop i xs ≡ x ∷ drop (i + 1) xs = drop_more xs i x h ∙ ap (λ v. v ∷ drop (i + 1) xs) (sym r) in
-      let back : drop i ys ≡ y ∷ drop (i + 1) ys = drop_more ys i y k ∙ ap (λ v. v ∷ drop (i + 1) ys) (sym s) in
-      rw (front, back)
-
-  pub list_order_greater : i < length xs → length ys ≤ i → list_order cmp (drop i xs) (drop i ys) ≡ Greater
-  list_order_greater h k = rw (drop_all i ys k) (first_left (drop i xs) (simp length-drop (omega arith)))
-    where
-      first_left : (zs : List X) → 0 < length zs → list_order cmp zs [] ≡ Greater
-      first_left [] l = absurd (omega arith)
-      first_left (z ∷ zs) l = refl
-
-  pub list_order_less : length xs ≤ i → i < length ys → list_order cmp (drop i xs) (drop i ys) ≡ Less
-  list_order_less h k = rw (drop_all i xs h) (second_left (drop i ys) (simp length-drop (omega arith)))
-    where
-      second_left : (zs : List X) → 0 < length zs → list_order cmp [] zs ≡ Less
-      second_left [] l = absurd (omega arith)
-      second_left (z ∷ zs) l = refl
-
-  pub list_order_equal : length xs ≤ i → length ys ≤ i → list_order cmp (drop i xs) (drop i ys) ≡ Equal
-  list_order_equal h k = rw (drop_all i xs h, drop_all i ys k)
+-- the end of a loop over two lists that turns as often as both have an element
+pub list_order_rest : {X : Type 0} (cmp : X → X → Ordering) (xs ys : List X) (n : ℕ) → n ≡ min (length xs) (length ys) → number_order (length xs) (length ys) ≡ list_order cmp (drop n xs) (drop n ys)
+list_order_rest cmp [] [] n e = let z : n ≡ 0 = omega arith in rw z (grind (arith, nat_tests))
+list_order_rest cmp [] (y ∷ ys) n e = let z : n ≡ 0 = omega arith in rw z (grind (arith, nat_tests))
+list_order_rest cmp (x ∷ xs) [] n e = let z : n ≡ 0 = omega arith in rw z (grind (arith, nat_tests))
+list_order_rest cmp (x ∷ xs) (y ∷ ys) zero e = absurd (omega arith)
+list_order_rest cmp (x ∷ xs) (y ∷ ys) (suc n) e = next ∙ list_order_rest cmp xs ys n (omega arith)
+  where
+    next : number_order (suc (length xs)) (suc (length ys)) ≡ number_order (length xs) (length ys)
+    next = grind (arith, nat_tests)

@@ -1,6 +1,6 @@
 -- The two parts of a slice p that holds a list: the first n elements, or all where n is more, and the spare places. Assumes nothing.
-use Rattle.std.proofs.Common.{◌≡◌, ℕ, ◌+◌, ◌<◌, List, length, get_or, take, drop, sym, ap, ◌∙◌}
-use Rattle.std.proofs.lemmas.List.{length-append, get_or_append_left, take-append-drop, take_at, drop_at}
+use Rattle.std.proofs.Common.{◌≡◌, ℕ, ◌+◌, List, length, take, drop, sym, ap, ◌∙◌}
+use Rattle.std.proofs.lemmas.List.{length-append, take-append-drop, take_at, drop_at}
 
 module _ {X : Type 0} where
   -- the elements and the spare places are all
@@ -13,6 +13,3 @@ module _ {X : Type 0} where
 
   pub drop_count : (p : List X) (n k : ℕ) → k ≡ length (take n p) → drop k p ≡ drop n p
   drop_count p n k e = ap (drop k) (sym (take-append-drop n p)) ∙ drop_at (take n p) (drop n p) k (sym e)
-
-  pub get_or_elements : (p : List X) (n i : ℕ) (d : X) → i < length (take n p) → get_or (take n p) i d ≡ get_or p i d
-  get_or_elements p n i d h = sym (get_or_append_left (take n p) (drop n p) d i h) ∙ ap (λ l. get_or l i d) (take-append-drop n p)

@@ -1,13 +1,14 @@
 -- Shows where an element stands or belongs in an ascending list: how a search by halves closes in on that place, and that membership, insertion,
 -- removal and the next member can be read there. Assumes nothing.
-use Rattle.std.proofs.Common.{◌≡◌, ℕ, zero, suc, ◌+◌, ◌<◌, ◌≤◌, true, false, List, [], ◌∷◌, length, get_or, take, Ordering, Less, sym, refl, ap, ◌∙◌, true≢false, add-one, arith}
-use Rattle.std.proofs.lemmas.List.{length-take-le, get_or-take}
+use Rattle.std.proofs.Common.{◌≡◌, ℕ, zero, suc, ◌+◌, ◌-◌, ◌<◌, ◌≤◌, Bool, true, false, cond, List, [], ◌∷◌, length, get_or, Some, Ok, Err, Ordering, Less, sym, refl, ap, ◌∙◌, true≢false, add-one, arith}
+use Rattle.std.proofs.lemmas.Option.{get_or_from_slice_get, slice_get_within}
 use Rattle.std.specs.Ordering.{is_lt, is_eq, is_le}
 use Rattle.std.specs.List.{insert as inserted, remove, slice_get}
+use Rattle.std.specs.List.Sorted.{IsPartitionedBy, IsPartitionPoint}
 use Rattle.order.specs.Order.{Laws}
-use Rattle.order.specs.Sets.{Ascending, holds, insert, without, above, rank}
+use Rattle.order.specs.Sets.{Ascending, holds, insert, without, above, rank, located}
 use Rattle.order.proofs.Ascents.{above_first, ascending_first, ascending_rest, holds_not_below, holds_not_under, under_get_or, without_absent}
-use Rattle.order.proofs.Comparing.{by_order, by_bool, less_turned, greater_turned, equal_turned, not_less}
+use Rattle.order.proofs.Comparing.{by_order, by_bool, less_turned, greater_turned, equal_turned, less_from_test}
 
 module _ {X : Type 0} {cmp : X → X → Ordering} (laws : Laws cmp) where
   -- the place of x: how a search by halves closes in on it
@@ -34,27 +35,50 @@ module _ {X : Type 0} {cmp : X → X → Ordering} (laws : Laws cmp) where
       let more = rank_upto x d ys i within e in
       by_bool (is_lt (cmp y x)) (λ b. rw b (omega arith)) (λ b. rw b (omega arith))
 
-  -- whether x is a member can be read at its place
-  pub holds_at_rank : (x d : X) (xs : List X) → Ascending cmp xs → rank cmp x xs < length xs → holds cmp x xs ≡ is_eq (cmp (get_or xs (rank cmp x xs) d) x)
-  holds_at_rank x d [] h l = absurd (omega arith)
-  holds_at_rank x d (y ∷ ys) h l =
-      by_order (cmp x y)
-      (λ e. rw (less_turned laws x y e, e, less_turned laws x y e) (holds_not_under laws x y ys (ascending_first laws y ys h) (ap is_le e)))
-      (λ e. rw (equal_turned laws x y e, e, equal_turned laws x y e))
-      (λ e.
-      let turned = greater_turned laws x y e in
-      let within : rank cmp x ys < length ys = omega (arith, rw turned at l) in
-      rw (turned, e) (holds_at_rank x d ys (ascending_rest laws y ys h) within))
+  pub rank_past_last : (x y : X) (xs : List X) → Ascending cmp xs → slice_get xs (length xs - 1) ≡ Some y → is_lt (cmp y x) ≡ true → length xs ≡ rank cmp x xs
+  rank_past_last x y xs h e b =
+      let last = get_or_from_slice_get xs (length xs - 1) y y e in
+      let past = rank_past x y xs (length xs - 1) h (slice_get_within xs (length xs - 1) y e) (ap (λ v. cmp v x) last ∙ less_from_test _ b) in
+      omega (arith, rank_le x xs)
 
-  pub holds_past_rank : (x : X) (xs : List X) → Ascending cmp xs → length xs ≤ rank cmp x xs → holds cmp x xs ≡ false
-  holds_past_rank x [] h l = refl
-  holds_past_rank x (y ∷ ys) h l =
-      by_order (cmp x y)
-      (λ e. absurd (omega (arith, rw (less_turned laws x y e) at l)))
-      (λ e. absurd (omega (arith, rw (equal_turned laws x y e) at l)))
-      (λ e.
-      let within : length ys ≤ rank cmp x ys = omega (arith, rw (greater_turned laws x y e) at l) in
-      rw e (holds_past_rank x ys (ascending_rest laws y ys h) within))
+  -- the elements below x come before the others, and the first of the others is at the place of x
+  pub below_first : (x : X) (xs : List X) → Ascending cmp xs → IsPartitionedBy (λ y. is_lt (cmp y x)) xs
+  below_first x [] h i j d le l e = absurd (omega arith)
+  below_first x (y ∷ ys) h zero zero d le l e = e
+  below_first x (y ∷ ys) h zero (suc j) d le l e =
+      ap is_lt (laws.trans y (get_or ys j d) x (under_get_or laws y d ys j (ascending_first laws y ys h) (omega arith)) (less_from_test _ e))
+  below_first x (y ∷ ys) h (suc i) zero d le l e = absurd (omega arith)
+  below_first x (y ∷ ys) h (suc i) (suc j) d le l e = below_first x ys (ascending_rest laws y ys h) i j d (omega arith) (omega arith) e
+
+  pub rank_parts : (x : X) (xs : List X) (i : ℕ) → i ≤ length xs → IsPartitionPoint (λ y. is_lt (cmp y x) ≡ true) (λ y. is_lt (cmp y x) ≡ false) xs i → i ≡ rank cmp x xs
+  rank_parts x [] i l p = omega arith
+  rank_parts x (y ∷ ys) zero l p = rw (p.1 0 y (omega arith) (omega arith))
+  rank_parts x (y ∷ ys) (suc i) l p =
+      rw (p.0 0 y (omega arith) (omega arith))
+      (ap suc (rank_parts x ys i (omega arith) (λ k d a b. p.0 (suc k) d (omega arith) (omega arith), λ k d a b. p.1 (suc k) d (omega arith) (omega arith))))
+
+  -- where x stands or belongs is told by the element at its place, or by there being none
+  pub located_here : (x y : X) (xs : List X) (at : ℕ) (b : Bool) → Ascending cmp xs → at ≡ rank cmp x xs → at < length xs → y ≡ get_or xs at y → is_eq (cmp y x) ≡ b → cond b (Ok at) (Err at) ≡ located cmp x xs
+  located_here x y xs at b h q l e t = rw (held xs h (omega arith) (e ∙ ap (λ i. get_or xs i y) q), t, q)
+    where
+      held : (zs : List X) → Ascending cmp zs → rank cmp x zs < length zs → y ≡ get_or zs (rank cmp x zs) y → holds cmp x zs ≡ is_eq (cmp y x)
+      held [] h l e = absurd (omega arith)
+      held (z ∷ zs) h l e =
+          by_order (cmp x z)
+          (λ o. let t = less_turned laws x z o in rw (o, rw t at e, t) (holds_not_under laws x z zs (ascending_first laws z zs h) (ap is_le o)))
+          (λ o. let t = equal_turned laws x z o in rw (o, rw t at e, t))
+          (λ o. let t = greater_turned laws x z o in rw o (held zs (ascending_rest laws z zs h) (omega (arith, rw t at l)) (rw t at e)))
+
+  pub located_past : (x : X) (xs : List X) (at : ℕ) → Ascending cmp xs → at ≡ rank cmp x xs → length xs ≤ at → Err at ≡ located cmp x xs
+  located_past x xs at h q l = rw (absent xs h (omega arith), q)
+    where
+      absent : (zs : List X) → Ascending cmp zs → length zs ≤ rank cmp x zs → holds cmp x zs ≡ false
+      absent [] h l = refl
+      absent (z ∷ zs) h l =
+          by_order (cmp x z)
+          (λ o. absurd (omega (arith, rw (less_turned laws x z o) at l)))
+          (λ o. absurd (omega (arith, rw (equal_turned laws x z o) at l)))
+          (λ o. rw o (absent zs (ascending_rest laws z zs h) (omega (arith, rw (greater_turned laws x z o) at l))))
 
   -- insertion, removal and the search for the next as steps at that place
   pub insert_at_rank : (x : X) (xs : List X) → holds cmp x xs ≡ false → insert cmp x xs ≡ inserted xs (rank cmp x xs) x
@@ -89,36 +113,20 @@ module _ {X : Type 0} {cmp : X → X → Ordering} (laws : Laws cmp) where
       (λ e. rw (equal_turned laws x y e, e) (above_first laws x ys (rw (sym (laws.equal x y e)) at (ascending_first laws y ys h))))
       (λ e. rw (greater_turned laws x y e, e) (above_past_rank x ys (ascending_rest laws y ys h) (rw e at n)))
 
-  -- the same at the first len places of a slice p, of which v was read at i
-  pub place_past : (p : List X) (len i : ℕ) (x v : X) → len ≤ length p → Ascending cmp (take len p) → i < len → v ≡ get_or p i v → cmp v x ≡ Less → i < rank cmp x (take len p)
-  place_past p len i x v n h l r e =
-      let long = length-take-le len p n in
-      let read : v ≡ get_or (take len p) i v = r ∙ sym (get_or-take len p i v l) in
-      rank_past x v (take len p) i h (omega arith) (ap (λ w. cmp w x) (sym read) ∙ e)
+  -- the same, by the answer of a search
+  pub located_ok : (x : X) (xs : List X) (at : ℕ) → Ok at ≡ located cmp x xs → (at ≡ rank cmp x xs) × (holds cmp x xs ≡ true)
+  located_ok x xs at e = by_bool (holds cmp x xs) (λ b. (cc (rw b at e), b)) (λ b. cc (rw b at e))
 
-  pub place_upto : (p : List X) (len i : ℕ) (x v : X) → len ≤ length p → i < len → v ≡ get_or p i v → (cmp v x ≡ Less → ⊥) → rank cmp x (take len p) ≤ i
-  place_upto p len i x v n l r e =
-      let long = length-take-le len p n in
-      let read : v ≡ get_or (take len p) i v = r ∙ sym (get_or-take len p i v l) in
-      rank_upto x v (take len p) i (omega arith) (ap (λ w. is_lt (cmp w x)) (sym read) ∙ not_less (cmp v x) e)
-
-  pub holds_at_place : (p : List X) (len at : ℕ) (x v : X) → len ≤ length p → Ascending cmp (take len p) → at ≡ rank cmp x (take len p) → at < len → v ≡ get_or p at v → holds cmp x (take len p) ≡ is_eq (cmp v x)
-  holds_at_place p len at x v n h q l r =
-      let long = length-take-le len p n in
-      let read : v ≡ get_or (take len p) (rank cmp x (take len p)) v = r ∙ sym (get_or-take len p at v l) ∙ ap (λ i. get_or (take len p) i v) q in
-      holds_at_rank x v (take len p) h (omega arith) ∙ ap (λ w. is_eq (cmp w x)) (sym read)
-
-  pub holds_past_place : (p : List X) (len at : ℕ) (x : X) → len ≤ length p → Ascending cmp (take len p) → at ≡ rank cmp x (take len p) → len ≤ at → holds cmp x (take len p) ≡ false
-  holds_past_place p len at x n h q l =
-      let long = length-take-le len p n in
-      holds_past_rank x (take len p) h (omega arith)
-
-  pub place_le : (p : List X) (len : ℕ) (x : X) → len ≤ length p → rank cmp x (take len p) ≤ len
-  place_le p len x n = let long = length-take-le len p n in omega (arith, rank_le x (take len p))
+  pub located_err : (x : X) (xs : List X) (at : ℕ) → Err at ≡ located cmp x xs → (at ≡ rank cmp x xs) × (holds cmp x xs ≡ false)
+  located_err x xs at e = by_bool (holds cmp x xs) (λ b. cc (rw b at e)) (λ b. (cc (rw b at e), b))
 
   -- what `above` gives, read one past the place of a member, or at the place of what is no member
-  pub above_after : (x : X) (xs : List X) (at : ℕ) → Ascending cmp xs → at ≡ rank cmp x xs → holds cmp x xs ≡ true → slice_get xs (at + 1) ≡ above cmp x xs
-  above_after x xs at h q n = ap (slice_get xs) (add-one at ∙ ap suc q) ∙ sym (above_past_rank x xs h n)
+  pub above_after : (x : X) (xs : List X) (at : ℕ) → Ascending cmp xs → Ok at ≡ located cmp x xs → slice_get xs (at + 1) ≡ above cmp x xs
+  above_after x xs at h e =
+      let found = located_ok x xs at e in
+      ap (slice_get xs) (add-one at ∙ ap suc found.0) ∙ sym (above_past_rank x xs h found.1)
 
-  pub above_at : (x : X) (xs : List X) (at : ℕ) → Ascending cmp xs → at ≡ rank cmp x xs → holds cmp x xs ≡ false → slice_get xs at ≡ above cmp x xs
-  above_at x xs at h q n = ap (slice_get xs) q ∙ sym (above_at_rank x xs h n)
+  pub above_at : (x : X) (xs : List X) (at : ℕ) → Ascending cmp xs → Err at ≡ located cmp x xs → slice_get xs at ≡ above cmp x xs
+  above_at x xs at h e =
+      let found = located_err x xs at e in
+      ap (slice_get xs) found.0 ∙ sym (above_at_rank x xs h found.1)

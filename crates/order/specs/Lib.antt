@@ -2,6 +2,7 @@
 pub mod Lists
 pub mod Order
 pub mod Lexical
+pub mod OrderLaws
 pub mod Sets
 pub mod OrderedLists
 pub mod SetLaws

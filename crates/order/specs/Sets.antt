@@ -1,7 +1,7 @@
 -- Sets as strictly ascending lists: two such lists with the same members are the same list, so that equal sets are equal lists.
 -- Each definition takes the comparison first. Assumes nothing.
 -- In docs/RULES.md: Finding; The least element above.
-use Rattle.std.specs.Prelude.{◌≡◌, ℕ, suc, Bool, true, false, cond, not, ◌&&◌, ◌||◌, List, [], ◌∷◌, Some, None, filter, Option}
+use Rattle.std.specs.Prelude.{◌≡◌, ℕ, suc, Bool, true, false, cond, not, ◌&&◌, ◌||◌, List, [], ◌∷◌, Some, None, filter, Option, Ok, Err, Result}
 use Rattle.std.specs.declared.cmp.Ordering.TheVariants.{Less}
 use Rattle.std.specs.declared.cmp.Ordering.{Ordering}
 use Rattle.std.specs.Ordering.{is_lt, is_le, is_eq, is_ne}
@@ -49,9 +49,9 @@ abbrev pub rank : {X : Type 0} → (X → X → Ordering) → X → List X → �
 rank cmp x [] = 0
 rank cmp x (y ∷ ys) = cond (is_lt (cmp y x)) (suc (rank cmp x ys)) 0
 
--- `at` is where x stands or belongs, and `held` tells whether it stands there
-abbrev pub Located : {X : Type 0} → (X → X → Ordering) → X → List X → ℕ → Bool → Type 0
-Located cmp x xs at held = (at ≡ rank cmp x xs) × (held ≡ holds cmp x xs)
+-- where x stands, or else where it belongs
+abbrev pub located : {X : Type 0} → (X → X → Ordering) → X → List X → Result ℕ ℕ
+located cmp x xs = cond (holds cmp x xs) (Ok (rank cmp x xs)) (Err (rank cmp x xs))
 
 -- the elements of the first list put into the second, one after the other: the union of two sets
 abbrev pub insert_all : {X : Type 0} → (X → X → Ordering) → List X → List X → List X

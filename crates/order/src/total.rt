@@ -3,7 +3,7 @@ ghost use Rattle.std.specs.Prelude.{◌≡◌};
 ghost use Rattle.std.specs.declared.cmp.Ordering.{Ordering as Three};
 ghost use Rattle.order.specs.Lexical.{list_order, number_order};
 ghost use Rattle.order.specs.Order.{Laws};
-ghost use Rattle.std.proofs.Common.{rules};
+ghost use Rattle.order.specs.OrderLaws.{number_laws};
 
 use std::cmp::Ordering;
 
@@ -22,34 +22,21 @@ pub trait TotalOrder {
 pub fn lexical<T: TotalOrder>(xs: &[T], ys: &[T]) -> Ordering
     ensures { result ≡ list_order T.compare xs.now ys.now }
 {
-    for i in 0..xs.len() {
-        if i >= ys.len() {
-            return Ordering::Greater;
-        }
-        match xs[i].order(&ys[i]) {
+    for (x, y) in xs.iter().zip(ys) {
+        match x.order(y) {
             Ordering::Equal => {}
             unequal => return unequal,
         }
     }
-    if xs.len() < ys.len() {
-        Ordering::Less
-    } else {
-        Ordering::Equal
-    }
+    xs.len().cmp(&ys.len())
 }
 
 impl TotalOrder for u32 {
     ghost compare = { number_order };
 
-    ghost lawful = { Prim.search rules };
+    ghost lawful = { number_laws };
 
     fn order(&self, other: &u32) -> Ordering {
-        if *self < *other {
-            Ordering::Less
-        } else if *self == *other {
-            Ordering::Equal
-        } else {
-            Ordering::Greater
-        }
+        self.cmp(other)
     }
 }

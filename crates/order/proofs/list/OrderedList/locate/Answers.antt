@@ -1,16 +1,23 @@
--- Shows that `locate` searches all elements and only these.
-use Rattle.std.proofs.Common.{sym, subst, arith}
-use Rattle.order.specs.Sets.{Ascending, Located}
-use Rattle.order.proofs.Parts.{take_count}
+-- Shows that one comparison at the place where x belongs tells whether it stands there.
+use Rattle.std.proofs.Common.{true, false, rules, arith}
+use Rattle.order.specs.OrderedLists.{elements}
+use Rattle.order.proofs.Ranks.{located_here, located_past}
 use Rattle.order.proofs.list.OrderedList.locate.Goals as goal
 
-pub returns : goal.returns
-returns g c =
-    let cmp = g.T.TotalOrder.compare in
-    let r = c.position.result in
-    let same = take_count c.args.self.now.places.now c.args.self.now.len c.len.result c.len.ensures.count in
-    record {
-      within = omega arith;
-      before = λ e. omega (arith, c.position.ensures.before e);
-      located = λ h. subst (λ xs. Located cmp c.args.x.now xs r.0 r.1) same (c.position.ensures.located (subst (Ascending cmp) (sym same) h));
-    }
+pub returns-in-Some-clause-located : goal.returns-in-Some-clause-located
+returns-in-Some-clause-located g c = λ h.
+    let place = rw c.elements-elements.ensures at c.lower_bound-at.ensures.place in
+    let found = rw c.elements-elements.ensures at c.in-Some.ensures.lookup in
+    located_here g.met.T.TotalOrder.lawful c.args.x.now c.in-Some.y.now (elements c.args.self.now) c.lower_bound-at.result true h (place h) (omega arith) (search rules) (search rules)
+
+pub returns-in_default-clause-located : goal.returns-in_default-clause-located
+returns-in_default-clause-located g c = λ h.
+    let place = rw c.elements-elements.ensures at c.lower_bound-at.ensures.place in
+    let found = rw c.elements-elements.ensures at c.in-Some.ensures.lookup in
+    located_here g.met.T.TotalOrder.lawful c.args.x.now c.in-Some.y.now (elements c.args.self.now) c.lower_bound-at.result false h (place h) (omega arith) (search rules) (search rules)
+
+pub returns-in_default-2-clause-located : goal.returns-in_default-2-clause-located
+returns-in_default-2-clause-located g c = λ h.
+    let place = rw c.elements-elements.ensures at c.lower_bound-at.ensures.place in
+    let found = rw (c.in_default.is, c.elements-elements.ensures) at c.get.ensures.lookup in
+    located_past g.met.T.TotalOrder.lawful c.args.x.now (elements c.args.self.now) c.lower_bound-at.result h (place h) (omega arith)
