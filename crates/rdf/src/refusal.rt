@@ -1,5 +1,5 @@
 // Why a question or a change is sent back.
-ghost use Rattle.std.specs.Prelude.{◌≡◌};
+ghost use Rattle.std.specs.Prelude.{◌≡◌, Some, decimal};
 ghost use Rattle.rdf.specs.Refusals.{number};
 
 use std::fmt;
@@ -45,6 +45,8 @@ impl Refusal {
 
 // Prints the number.
 impl fmt::Display for Refusal {
+    ghost output = { λ r. Some (decimal (number r)) };
+
     fn fmt<W: fmt::Write>(&self, f: &mut fmt::Formatter<W>) -> fmt::Result {
         write!(f, "{}", self.number())
     }
