@@ -1,31 +1,25 @@
--- The steps of a loop over numbered elements, and of one over a range of numbers, that stops at the first that fails a test. Assumes nothing.
-use Rattle.std.proofs.Common.{◌≡◌, ℕ, zero, suc, ◌+◌, ◌<◌, ◌≤◌, Bool, true, false, ◌&&◌, List, length, get_or, drop, sym, ap, ◌∙◌, ⊎_elim, add-one, arith}
-use Rattle.std.proofs.lemmas.List.{at_drop_all, at_drop_more}
-use Rattle.std.proofs.lemmas.Bool.{and_from, and_left, and_right, cases_eq}
+-- Tests over a list whose elements are numbered, and over a range of numbers, in the words of std. Assumes nothing.
+use Rattle.std.proofs.Common.{◌≡◌, ℕ, zero, suc, ◌+◌, Bool, true, false, ◌&&◌, List, [], ◌∷◌, ◌++◌, refl, ap, ◌∙◌, add-one, arith}
+use Rattle.std.proofs.lemmas.List.Folds.{list_all-append}
+use Rattle.std.specs.List.{enumerate_from, list_all, range_with_len}
 use Rattle.query.specs.Every.{every_below, every_from}
 
--- the invariant is that the elements from i on decide the test of the whole list
-module _ {X : Type 0} (p : ℕ → X → Bool) (xs : List X) (i : ℕ) where
-  pub every_from_more : (d : X) → i < length xs → p i (get_or xs i d) ≡ true → every_from p i (drop i xs) ≡ every_from p 0 xs → every_from p (i + 1) (drop (i + 1) xs) ≡ every_from p 0 xs
-  every_from_more d in' yes' inv =
-      let step : every_from p i (drop i xs) ≡ (p i (get_or xs i d) && every_from p (i + 1) (drop (i + 1) xs)) = at_drop_more (every_from p i) xs i d in' in
-      sym (rw yes' at step) ∙ inv
+pub every_from_all : {X : Type 0} (test : ℕ → X → Bool) (n : ℕ) (xs : List X) → list_all (λ (p : ℕ × X). test p.0 p.1) (enumerate_from n xs) ≡ every_from test n xs
+every_from_all test n [] = refl
+every_from_all test n (x ∷ xs) = ap (λ b. test n x && b) (every_from_all test (n + 1) xs)
 
-  pub every_from_fails : (d : X) → i < length xs → p i (get_or xs i d) ≡ false → every_from p i (drop i xs) ≡ every_from p 0 xs → false ≡ every_from p 0 xs
-  every_from_fails d in' fails inv =
-      let step : every_from p i (drop i xs) ≡ (p i (get_or xs i d) && every_from p (i + 1) (drop (i + 1) xs)) = at_drop_more (every_from p i) xs i d in' in
-      sym (rw fails at step) ∙ inv
+range_more : (a n j : ℕ) → a + n ≡ j → range_with_len a (suc n) ≡ range_with_len a n ++ (j ∷ [])
+range_more a zero j e = ap (λ m. m ∷ []) (omega arith)
+range_more a (suc n) j e = ap (λ l. a ∷ l) (range_more (a + 1) n j (omega arith))
 
-  pub every_from_all : length xs ≤ i → every_from p i (drop i xs) ≡ every_from p 0 xs → true ≡ every_from p 0 xs
-  every_from_all end inv = sym (at_drop_all (every_from p i) xs i end) ∙ inv
+and_swap : (a b : Bool) → (a && (b && true)) ≡ (b && a)
+and_swap true true = refl
+and_swap true false = refl
+and_swap false true = refl
+and_swap false false = refl
 
--- a loop over the numbers below n that stops at the first that fails
-pub every_below_more : (p : ℕ → Bool) (i : ℕ) → p i ≡ true → every_below p i ≡ true → every_below p (i + 1) ≡ true
-every_below_more p i here below = rw add-one (and_from (p i) (every_below p i) here below)
-
-pub every_below_fails : (p : ℕ → Bool) (n i : ℕ) → i < n → p i ≡ false → false ≡ every_below p n
-every_below_fails p zero i lt fails = absurd (omega arith)
-every_below_fails p (suc n) i lt fails = ⊎_elim
-    (λ here. sym (and_left (p n) (every_below p n) (ap p (sym here) ∙ fails)))
-    (λ other. sym (and_right (p n) (every_below p n) (sym (every_below_fails p n i (omega arith) fails))))
-    (cases_eq i n)
+pub every_below_all : (test : ℕ → Bool) (n : ℕ) → list_all test (range_with_len 0 n) ≡ every_below test n
+every_below_all test zero = refl
+every_below_all test (suc n) =
+    ap (list_all test) (range_more 0 n n (omega arith)) ∙ list_all-append test (range_with_len 0 n) (n ∷ [])
+    ∙ and_swap (list_all test (range_with_len 0 n)) (test n) ∙ ap (λ b. test n && b) (every_below_all test n)

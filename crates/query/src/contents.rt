@@ -1,6 +1,6 @@
 // Whether the variables, terms and value rows of a table's entries are such as may stand there.
 ghost use Rattle.std.specs.Prelude.{◌≡◌};
-ghost use Rattle.order.specs.Lists.{every};
+ghost use Rattle.std.specs.List.{list_all};
 ghost use Rattle.rdf.specs.Rows.{is_data_row};
 ghost use Rattle.query.specs.Rules.{position_in_range, positions_fit, span_fits, takes_constant, takes_identifier, values_fit, variables_in_range};
 
@@ -9,14 +9,9 @@ use rdf::row::Row;
 
 // Whether rows have a place for each variable.
 pub(crate) fn variables_fit(entries: &[Entry]) -> bool
-    ensures { result ≡ every variables_in_range entries.now }
+    ensures { result ≡ list_all variables_in_range entries.now }
 {
-    for entry in entries {
-        if !variables_in_range(entry) {
-            return false;
-        }
-    }
-    true
+    entries.iter().all(variables_in_range)
 }
 
 fn variables_in_range(entry: &Entry) -> bool
@@ -29,9 +24,7 @@ fn variables_in_range(entry: &Entry) -> bool
         Entry::Equal(x, y) => position_in_range(x) && position_in_range(y),
         Entry::Blank(x) => position_in_range(x),
         Entry::Bound(v) => v.is_in_range(),
-        Entry::Values { .. } | Entry::Initial | Entry::Select(_, _) | Entry::Filter(_, _) => true,
-        Entry::And(_, _) | Entry::Union(_, _) | Entry::Opt(_, _) | Entry::Minus(_, _) => true,
-        Entry::Not(_) | Entry::Both(_, _) | Entry::Either(_, _) | Entry::Exists(_) => true,
+        _ => true,
     }
 }
 
@@ -46,14 +39,9 @@ fn position_in_range(position: Position) -> bool
 
 // Whether each term in a position is of a sort that the position takes.
 pub(crate) fn positions_fit(entries: &[Entry]) -> bool
-    ensures { result ≡ every positions_fit entries.now }
+    ensures { result ≡ list_all positions_fit entries.now }
 {
-    for entry in entries {
-        if !entry_positions_fit(entry) {
-            return false;
-        }
-    }
-    true
+    entries.iter().all(entry_positions_fit)
 }
 
 fn entry_positions_fit(entry: &Entry) -> bool
@@ -63,13 +51,7 @@ fn entry_positions_fit(entry: &Entry) -> bool
         Entry::Triple(s, p, o) => takes_identifier(s) && takes_identifier(p) && takes_constant(o),
         Entry::Equal(x, y) => takes_constant(x) && takes_constant(y),
         Entry::Blank(x) => takes_constant(x),
-        Entry::Values { .. } | Entry::Initial | Entry::Select(_, _) | Entry::Filter(_, _) => true,
-        Entry::And(_, _) | Entry::Union(_, _) | Entry::Opt(_, _) | Entry::Minus(_, _) => true,
-        Entry::Not(_)
-        | Entry::Both(_, _)
-        | Entry::Either(_, _)
-        | Entry::Exists(_)
-        | Entry::Bound(_) => true,
+        _ => true,
     }
 }
 
@@ -95,14 +77,9 @@ fn takes_constant(position: Position) -> bool
 
 // Whether each span of value rows lies within them and has data rows only.
 pub(crate) fn values_fit(entries: &[Entry], values: &[Row]) -> bool
-    ensures { result ≡ every (values_fit values.now) entries.now }
+    ensures { result ≡ list_all (values_fit values.now) entries.now }
 {
-    for entry in entries {
-        if !entry_values_fit(values, entry) {
-            return false;
-        }
-    }
-    true
+    entries.iter().all(|entry| entry_values_fit(values, entry))
 }
 
 fn entry_values_fit(values: &[Row], entry: &Entry) -> bool
@@ -110,10 +87,7 @@ fn entry_values_fit(values: &[Row], entry: &Entry) -> bool
 {
     match *entry {
         Entry::Values { first, count } => span_fits(values, first, count),
-        Entry::Triple(_, _, _) | Entry::Initial | Entry::Select(_, _) | Entry::Filter(_, _) => true,
-        Entry::And(_, _) | Entry::Union(_, _) | Entry::Opt(_, _) | Entry::Minus(_, _) => true,
-        Entry::Equal(_, _) | Entry::Blank(_) | Entry::Bound(_) => true,
-        Entry::Not(_) | Entry::Both(_, _) | Entry::Either(_, _) | Entry::Exists(_) => true,
+        _ => true,
     }
 }
 
@@ -128,12 +102,7 @@ fn span_fits(values: &[Row], first: usize, count: usize) -> bool
 }
 
 fn rows_are_data(rows: &[Row]) -> bool
-    ensures { result ≡ every is_data_row rows.now }
+    ensures { result ≡ list_all is_data_row rows.now }
 {
-    for row in rows {
-        if !row.is_data() {
-            return false;
-        }
-    }
-    true
+    rows.iter().all(Row::is_data)
 }

@@ -1,20 +1,20 @@
 // The query table.
 ghost use Rattle.std.specs.Prelude.{◌≡◌};
-ghost use Rattle.query.specs.Entries.{a_condition, a_pattern, child_list, children_of, kind_of};
+ghost use Rattle.query.specs.Entries.{child_list, children_of, kind_of};
 
 use rdf::row::Row;
 use rdf::term::Term;
 use rdf::variable::{Variable, VariableSet};
 
 // A position of a TRIPLE, an EQUAL or a BLANK: a variable or a term.
-#[derive(Clone, Copy)]
+#[derive(Clone, Copy, PartialEq, Eq, Debug)]
 pub enum Position {
     Variable(Variable),
     Term(Term),
 }
 
 // An entry is a pattern or a condition, and names others by their numbers in the table.
-#[derive(Clone, Copy)]
+#[derive(Clone, Copy, PartialEq, Eq, Debug)]
 pub enum Entry {
     Triple(Position, Position, Position),
     Values { first: usize, count: usize },
@@ -35,21 +35,22 @@ pub enum Entry {
 }
 
 // What an entry is.
-#[derive(Clone, Copy, PartialEq, Eq)]
+#[derive(Clone, Copy, PartialEq, Eq, Debug)]
 pub enum Kind {
     Pattern,
     Condition,
 }
 
 // An entry that another names, and what is due there.
-#[derive(Clone, Copy)]
+#[derive(Clone, Copy, PartialEq, Eq, Debug)]
 pub struct Child {
     pub at: usize,
     pub due: Kind,
 }
 
 // The entries that one entry names.
-#[derive(Clone, Copy)]
+// Kept: tried `[Option<Child>; 2]` and `iter().flatten()`: the check finds no proof of a `flatten` over references, and with `copied()` before it the chain is no plainer than these three cases.
+#[derive(Clone, Copy, PartialEq, Eq, Debug)]
 pub enum Children {
     None,
     One(Child),
@@ -61,6 +62,15 @@ pub enum Children {
 pub struct Query<'a> {
     pub entries: &'a [Entry],
     pub values: &'a [Row],
+}
+
+impl Kind {
+    // The entry of that number, where one of this kind is due.
+    pub(crate) fn at(self, at: usize) -> Child
+        ensures { result ≡ record { at = at; due = self } }
+    {
+        Child { at, due: self }
+    }
 }
 
 impl Entry {
@@ -84,32 +94,16 @@ impl Entry {
     {
         match *self {
             Entry::And(l, r) | Entry::Union(l, r) | Entry::Opt(l, r) | Entry::Minus(l, r) => {
-                Children::Two(pattern(l), pattern(r))
+                Children::Two(Kind::Pattern.at(l), Kind::Pattern.at(r))
             }
-            Entry::Select(p, _) | Entry::Exists(p) => Children::One(pattern(p)),
-            Entry::Filter(p, c) => Children::Two(pattern(p), condition(c)),
-            Entry::Not(c) => Children::One(condition(c)),
-            Entry::Both(l, r) | Entry::Either(l, r) => Children::Two(condition(l), condition(r)),
+            Entry::Select(p, _) | Entry::Exists(p) => Children::One(Kind::Pattern.at(p)),
+            Entry::Filter(p, c) => Children::Two(Kind::Pattern.at(p), Kind::Condition.at(c)),
+            Entry::Not(c) => Children::One(Kind::Condition.at(c)),
+            Entry::Both(l, r) | Entry::Either(l, r) => {
+                Children::Two(Kind::Condition.at(l), Kind::Condition.at(r))
+            }
             Entry::Triple(_, _, _) | Entry::Values { .. } | Entry::Initial => Children::None,
             Entry::Equal(_, _) | Entry::Blank(_) | Entry::Bound(_) => Children::None,
         }
-    }
-}
-
-fn pattern(at: usize) -> Child
-    ensures { result ≡ a_pattern at }
-{
-    Child {
-        at,
-        due: Kind::Pattern,
-    }
-}
-
-fn condition(at: usize) -> Child
-    ensures { result ≡ a_condition at }
-{
-    Child {
-        at,
-        due: Kind::Condition,
     }
 }

@@ -1,5 +1,5 @@
 // The checks that a question makes before it touches any memory, each over all entries before the next.
-ghost use Rattle.std.specs.Prelude.{◌≡◌, OnOk};
+ghost use Rattle.std.specs.Prelude.{◌≡◌, Err, Ok, OnOk, if◌then◌else◌};
 ghost use Rattle.query.specs.First.{checked, first_refusal};
 ghost use Rattle.query.specs.WellFormed.{Accepted};
 
@@ -15,32 +15,19 @@ pub fn check(query: &Query, start: &Row, row_places: usize) -> Result<(), Refusa
     ensures accepted { OnOk result (Accepted query.now.entries.now query.now.values.now start.now row_places) }
 {
     let entries = query.entries;
-    if !size_fits(entries) {
-        return Err(Refusal::TableSize);
-    }
-    if !names_earlier(entries) {
-        return Err(Refusal::ForwardReference);
-    }
-    if !kinds_fit(entries) {
-        return Err(Refusal::WrongKind);
-    }
-    if !is_tree(entries) {
-        return Err(Refusal::NotATree);
-    }
-    if !variables_fit(entries) {
-        return Err(Refusal::VariableRange);
-    }
-    if !positions_fit(entries) {
-        return Err(Refusal::BadPosition);
-    }
-    if !values_fit(entries, query.values) {
-        return Err(Refusal::BadValues);
-    }
-    if !start.holds_terms() {
-        return Err(Refusal::BadStart);
-    }
-    if row_places < entries.len() {
-        return Err(Refusal::FewRows);
-    }
-    Ok(())
+    ensure(size_fits(entries), Refusal::TableSize)?;
+    ensure(names_earlier(entries), Refusal::ForwardReference)?;
+    ensure(kinds_fit(entries), Refusal::WrongKind)?;
+    ensure(is_tree(entries), Refusal::NotATree)?;
+    ensure(variables_fit(entries), Refusal::VariableRange)?;
+    ensure(positions_fit(entries), Refusal::BadPosition)?;
+    ensure(values_fit(entries, query.values), Refusal::BadValues)?;
+    ensure(start.holds_terms(), Refusal::BadStart)?;
+    ensure(entries.len() <= row_places, Refusal::FewRows)
+}
+
+fn ensure(passes: bool, refusal: Refusal) -> Result<(), Refusal>
+    ensures { result ≡ (if passes then Ok tt else Err refusal) }
+{
+    if passes { Ok(()) } else { Err(refusal) }
 }

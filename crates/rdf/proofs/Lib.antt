@@ -1,4 +1,3 @@
 pub mod RowLaws
 pub mod Places
-mod Members
 mod PlaceLoops

@@ -24,18 +24,18 @@ fn last_number_tells_triples_apart(rt: HostRuntime) {
     let large = Triple {
         subject: Term(1),
         predicate: Term(1),
-        object: Term(4294967295),
+        object: Term(u32::MAX),
     };
-    assert!(rt; small.order(&large) == Ordering::Less);
-    assert!(rt; small != large);
+    assert_eq!(rt; small.order(&large), Ordering::Less);
+    assert_ne!(rt; small, large);
 }
 
 #[test]
 fn last_place_tells_rows_apart(rt: HostRuntime) {
     let row = Row::binding(Variable(15), Term(5));
-    assert!(rt; row != EMPTY_ROW);
-    assert!(rt; row.value(Variable(15)) == Term(5));
-    assert!(rt; row.with(Variable(16), Term(9)) == row);
+    assert_ne!(rt; row, EMPTY_ROW);
+    assert_eq!(rt; row.value(Variable(15)), Term(5));
+    assert_eq!(rt; row.with(Variable(16), Term(9)), row);
 }
 
 #[test]
@@ -43,7 +43,7 @@ fn union_binds_what_either_binds(rt: HostRuntime) {
     let left = Row::binding(Variable(0), Term(5));
     let right = Row::binding(Variable(1), Term(7));
     assert!(rt; left.agrees(&right));
-    assert!(rt; left.union(&right).value(Variable(1)) == Term(7));
+    assert_eq!(rt; left.union(&right).value(Variable(1)), Term(7));
     assert!(rt; !left.agrees(&Row::binding(Variable(0), Term(9))));
 }
 
@@ -51,6 +51,6 @@ fn union_binds_what_either_binds(rt: HostRuntime) {
 fn projection_leaves_the_other_places_unbound(rt: HostRuntime) {
     let both = Row::binding(Variable(0), Term(5)).with(Variable(1), Term(7));
     let first = both.project(VariableSet::none().with(Variable(0)));
-    assert!(rt; first.value(Variable(0)) == Term(5));
-    assert!(rt; first.value(Variable(1)) == UNBOUND);
+    assert_eq!(rt; first.value(Variable(0)), Term(5));
+    assert_eq!(rt; first.value(Variable(1)), UNBOUND);
 }

@@ -8,7 +8,7 @@ use order::total::TotalOrder;
 use std::cmp::Ordering;
 
 // Three numbers; they are a triple where each has a sort that its place takes.
-#[derive(Clone, Copy, PartialEq, Eq)]
+#[derive(Clone, Copy, PartialEq, Eq, Debug)]
 pub struct Triple {
     pub subject: Term,
     pub predicate: Term,
@@ -33,18 +33,16 @@ impl Triple {
     }
 }
 
+// Kept: std's `Ord` does not say that only a triple itself is equal to it, and a derive of this trait would be one of our own, which the gate refuses.
 impl TotalOrder for Triple {
     ghost compare = { compare_triples };
 
     ghost lawful = { triple_laws };
 
     fn order(&self, other: &Triple) -> Ordering {
-        match self.subject.order(&other.subject) {
-            Ordering::Equal => match self.predicate.order(&other.predicate) {
-                Ordering::Equal => self.object.order(&other.object),
-                unequal => unequal,
-            },
-            unequal => unequal,
-        }
+        self.subject
+            .order(&other.subject)
+            .then_with(|| self.predicate.order(&other.predicate))
+            .then_with(|| self.object.order(&other.object))
     }
 }

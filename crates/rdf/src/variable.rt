@@ -3,7 +3,7 @@ ghost use Rattle.std.specs.Prelude.{◌≡◌, false};
 ghost use Rattle.rdf.specs.Variables.{HasAlso, in_range, in_set};
 
 // A variable by its number; a query may use 0 to 15.
-#[derive(Clone, Copy, PartialEq, Eq)]
+#[derive(Clone, Copy, PartialEq, Eq, Debug)]
 pub struct Variable(pub u8);
 
 impl Variable {
@@ -16,7 +16,7 @@ impl Variable {
 }
 
 // A set of variables that rows have places for: bit v is set where variable v is a member.
-#[derive(Clone, Copy, PartialEq, Eq)]
+#[derive(Clone, Copy, PartialEq, Eq, Debug)]
 pub struct VariableSet(u16);
 
 impl VariableSet {

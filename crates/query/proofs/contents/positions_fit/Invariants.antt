@@ -1,9 +1,0 @@
--- What the loop over the entries keeps.
-use Rattle.std.proofs.Common.{◌≡◌, drop}
-use Rattle.order.specs.Lists.{every}
-use Rattle.query.specs.Rules.{positions_fit}
-use Rattle.query.proofs.contents.positions_fit.Given as goal
-
--- the elements from the index on decide the test
-abbrev pub invariant-loop-entry : goal.invariant-loop-entry
-invariant-loop-entry l = every positions_fit (drop l.entry-index l.entries) ≡ every positions_fit l.entries
