@@ -1,5 +1,5 @@
 // A graph laid over another one, with the changes kept beside it.
-ghost use Rattle.std.specs.Prelude.{◌≡◌, ◌<◌, ◌≤◌, true, false, length, take, if◌then◌else◌, Ok, Err, refl};
+ghost use Rattle.std.specs.Prelude.{◌≡◌, ◌<◌, ◌≤◌, true, false, [], length, take, if◌then◌else◌, Ok, Err, refl};
 ghost use Rattle.std.proofs.Common.{◌∙◌};
 ghost use Rattle.order.specs.Lists.{every};
 ghost use Rattle.order.specs.Sets.{Ascending, above, difference, holds, insert, symmetric_difference, without};
@@ -7,10 +7,9 @@ ghost use Rattle.rdf.specs.Triples.{compare_triples, is_triple};
 ghost use Rattle.rdf.specs.declared.refusal.Refusal.TheVariants.{NoPlace};
 ghost use Rattle.graph.specs.Changes.{accepted, adding, alters, removing, triple_of};
 ghost use Rattle.graph.specs.Calls.{Applied};
+ghost use Rattle.graph.specs.Histories.{History, account, laid_over, make_of};
 ghost use Rattle.graph.specs.Makes.{no_mark, overlaid, turned, unused};
 ghost use Rattle.graph.specs.GraphLaws.{overlay_lawful, overlay_ruled};
-
-mod opening;
 
 use crate::editable_graph::EditableGraph;
 use crate::graph::{Graph, contains, lesser_of};
@@ -34,6 +33,20 @@ pub struct Overlay<G> {
 }
 
 impl<G: Graph> Overlay<G> {
+    // Lays an overlay without marks over a graph.
+    pub fn new(base: G) -> Self
+        ensures kept { result.base ≡ base }
+        ensures bare { take result.count result.marks ≡ [] }
+        ensures history { (h : History) → account h ≡ G.Graph.triples base → account (laid_over h) ≡ ⟦<Overlay<G> as Graph>⟧.triples result }
+        ensures make { (h : History) → account h ≡ G.Graph.triples base → make_of (laid_over h) ≡ ⟦<Overlay<G> as Graph>⟧.make result }
+    {
+        Overlay {
+            base,
+            marks: [NO_TRIPLE; 32],
+            count: 0,
+        }
+    }
+
     // Whether the triple is marked.
     fn is_marked(&self, triple: &Triple) -> bool
         ensures { result ≡ holds compare_triples triple.now (take self.now.count self.now.marks) }

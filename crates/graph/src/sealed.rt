@@ -5,9 +5,8 @@ ghost use Rattle.order.specs.Sets.{above};
 ghost use Rattle.rdf.specs.Triples.{compare_triples};
 ghost use Rattle.graph.specs.Changes.{adding, alters, removing};
 ghost use Rattle.graph.specs.Calls.{Applied};
+ghost use Rattle.graph.specs.Histories.{History, account, make_of, sealed};
 ghost use Rattle.graph.specs.Makes.{read_only};
-
-mod opening;
 
 use crate::editable_graph::EditableGraph;
 use crate::graph::{Graph, contains};
@@ -21,6 +20,16 @@ const NO_PLACES: usize = 0;
 #[derive(Drop)]
 pub struct Sealed<G> {
     graph: G,
+}
+
+impl<G: Graph> Sealed<G> {
+    pub fn new(graph: G) -> Self
+        ensures kept { result.graph ≡ graph }
+        ensures history { (h : History) → account h ≡ G.Graph.triples graph → account (sealed h) ≡ ⟦<Sealed<G> as Graph>⟧.triples result }
+        ensures make { (h : History) → make_of (sealed h) ≡ ⟦<Sealed<G> as Graph>⟧.make result }
+    {
+        Sealed { graph }
+    }
 }
 
 impl<G: Graph> Graph for Sealed<G> {

@@ -7,10 +7,9 @@ ghost use Rattle.order.specs.Sets.{above};
 ghost use Rattle.rdf.specs.Triples.{compare_triples, is_triple, no_triple};
 ghost use Rattle.graph.specs.Changes.{adding, after as leaves, alters, removing};
 ghost use Rattle.graph.specs.Calls.{Applied};
+ghost use Rattle.graph.specs.Histories.{account, emptied, make_of};
 ghost use Rattle.graph.specs.Makes.{no_room, stored};
 ghost use Rattle.graph.specs.Reading.{then_empty};
-
-mod opening;
 
 use crate::editable_graph::EditableGraph;
 use crate::graph::Graph;
@@ -26,6 +25,29 @@ pub struct StoredGraph<'a> {
     ghost ordered: { Ordered compare_triples list },
     ghost members: { every is_triple (elements list) ≡ true },
     ghost zeros: { spare list ≡ replicate (length (spare list)) no_triple },
+}
+
+impl<'a> StoredGraph<'a> {
+    // Opens a stored graph: every place is emptied.
+    pub fn new(places: &'a mut [Triple]) -> Self
+        ensures same { result.list.places.ghost_name ≡ places.entry.ghost_name }
+        ensures empty { result.list.places.now ≡ replicate (length places.old) no_triple }
+        ensures history { account (emptied (length places.old)) ≡ ⟦<StoredGraph<'a> as Graph>⟧.triples result }
+        ensures make { make_of (emptied (length places.old)) ≡ ⟦<StoredGraph<'a> as Graph>⟧.make result }
+    {
+        StoredGraph {
+            list: OrderedList::cleared(places, NO_TRIPLE),
+        }
+    }
+
+    // Gives the places back: the set, ascending, and empty places after it.
+    pub fn into_places(self) -> &'a mut [Triple]
+        ensures same { result.ghost_name ≡ self.entry.list.places.ghost_name }
+        ensures places { result.now ≡ then_empty (⟦<StoredGraph<'a> as Graph>⟧.triples self.entry) (length self.entry.list.places.now) }
+    {
+        let StoredGraph { list } = self;
+        list.into_places()
+    }
 }
 
 impl<'a> Graph for StoredGraph<'a> {

@@ -3,11 +3,9 @@ ghost use Rattle.std.specs.Prelude.{◌≡◌, true, ◌&&◌, if◌then◌else�
 ghost use Rattle.std.specs.Ordering.{is_lt};
 ghost use Rattle.order.specs.Sets.{above, lesser};
 ghost use Rattle.rdf.specs.Triples.{compare_triples, is_triple};
-ghost use Rattle.graph.specs.Histories.{set_of};
+ghost use Rattle.graph.specs.Histories.{account, listed, make_of, set_of};
 ghost use Rattle.graph.specs.Makes.{read_only};
 ghost use Rattle.graph.specs.GraphLaws.{set_of_lawful};
-
-mod opening;
 
 use crate::graph::{Graph, lesser_of};
 use order::total::TotalOrder;
@@ -18,6 +16,16 @@ use std::cmp::Ordering;
 #[derive(Clone, Copy)]
 pub struct TripleList<'a> {
     entries: &'a [Triple],
+}
+
+impl<'a> TripleList<'a> {
+    pub fn new(entries: &'a [Triple]) -> Self
+        ensures kept { result.entries.now ≡ entries.now }
+        ensures history { account (listed entries.now) ≡ ⟦<TripleList<'a> as Graph>⟧.triples result }
+        ensures make { make_of (listed entries.now) ≡ ⟦<TripleList<'a> as Graph>⟧.make result }
+    {
+        TripleList { entries }
+    }
 }
 
 // The better of the best so far and a candidate, which counts if it is a triple above `after`.
