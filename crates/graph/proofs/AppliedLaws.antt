@@ -8,7 +8,8 @@ use Rattle.rdf.specs.Triples.{TripleSet, is_triple}
 use Rattle.rdf.specs.declared.refusal.Refusal.{Refusal}
 use Rattle.rdf.specs.declared.refusal.Refusal.TheVariants.{NotATriple, NoPlace}
 use Rattle.rdf.specs.declared.triple.Triple.{Triple}
-use Rattle.graph.specs.Changes.{Change, adding, removing, triple_of, changed, has_effect, verdict, accepted, refused_by, after, alters}
+use Rattle.graph.specs.Changes.{Change, triple_of, changed, has_effect, verdict, accepted, refused_by, after, alters}
+use Rattle.graph.specs.declared.change.Change.TheVariants.{Add, Remove}
 use Rattle.graph.specs.Calls.{Applied}
 
 -- the numbers of the refusals are those of the answer
@@ -37,8 +38,8 @@ module _ (c : Change) (full : Bool) (entry exit : List Triple) (free left : ℕ)
 
 -- a change without effect leaves the set as it is
 pub same_set : (c : Change) (s : List Triple) → TripleSet s → has_effect c s ≡ false → s ≡ changed c s
-same_set (adding t) s h none = sym (insert_held triple_laws t s h.ascending (not-false _ none))
-same_set (removing t) s h none = sym (without_absent triple_laws t s none)
+same_set (Add t) s h none = sym (insert_held triple_laws t s h.ascending (not-false _ none))
+same_set (Remove t) s h none = sym (without_absent triple_laws t s none)
 
 module _ (c : Change) (full : Bool) (s : List Triple) (n : ℕ) (honest : full ≡ true → n ≡ 0) where
   pub not_a_triple : is_triple (triple_of c) ≡ false → Applied c full s s n n (Err NotATriple)

@@ -11,8 +11,9 @@ use Rattle.rdf.specs.Triples.{TripleSet, compare_triples, is_triple}
 use Rattle.rdf.specs.declared.refusal.Refusal.{Refusal}
 use Rattle.rdf.specs.declared.refusal.Refusal.TheVariants.{NoPlace}
 use Rattle.rdf.specs.declared.triple.Triple.{Triple}
+use Rattle.graph.specs.declared.change.Change.TheVariants.{Add, Remove}
 use Rattle.graph.specs.Calls.{Applied}
-use Rattle.graph.specs.Changes.{Change, accepted, adding, after, alters, changed, has_effect, removing, triple_of, verdict}
+use Rattle.graph.specs.Changes.{Change, accepted, after, alters, changed, has_effect, triple_of, verdict}
 use Rattle.graph.specs.Makes.{no_mark, turned, unused}
 use Rattle.graph.proofs.AppliedLaws.{applied_by}
 
@@ -33,8 +34,8 @@ turns t z m =
 
 -- with the mark turned, the set is the changed one
 turned_set : (c : Change) (m b : List Triple) → TripleSet b → has_effect c (symmetric_difference compare_triples m b) ≡ true → symmetric_difference compare_triples (turned m (triple_of c)) b ≡ changed c (symmetric_difference compare_triples m b)
-turned_set (adding t) m b base some = marked_adds triple_laws t m (turned m t) b base.ascending (λ z. turns t z m) (not-true _ some)
-turned_set (removing t) m b base some = marked_removes triple_laws t m (turned m t) b base.ascending (λ z. turns t z m) some
+turned_set (Add t) m b base some = marked_adds triple_laws t m (turned m t) b base.ascending (λ z. turns t z m) (not-true _ some)
+turned_set (Remove t) m b base some = marked_removes triple_laws t m (turned m t) b base.ascending (λ z. turns t z m) some
 
 module _ (c : Change) (m n b : List Triple) (r : Result (Unit {0}) Refusal) (base : TripleSet b) (triple : is_triple (triple_of c) ≡ true) (some : has_effect c (symmetric_difference compare_triples m b) ≡ true) where
   -- a change with effect turns the mark of its triple, unless there is no place for it

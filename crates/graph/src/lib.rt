@@ -1,6 +1,7 @@
 // Graphs of RDF triples: what every kind of graph means, the kinds, and reading a whole graph into lent memory.
 #![tactic(auto)]
 
+pub mod change;
 pub mod editable_graph;
 pub mod graph;
 pub mod overlay;
