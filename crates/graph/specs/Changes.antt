@@ -8,7 +8,6 @@ use Rattle.rdf.specs.declared.refusal.Refusal.{Refusal}
 use Rattle.rdf.specs.declared.refusal.Refusal.TheVariants.{NotATriple, NoPlace}
 use Rattle.rdf.specs.declared.triple.Triple.{Triple}
 use Rattle.graph.specs.declared.change.Change.TheVariants.{Add, Remove}
-
 -- a call that is to change the set, with its three numbers
 pub use Rattle.graph.specs.declared.change.Change.{Change}
 

@@ -8,8 +8,9 @@ ghost use Rattle.graph.specs.Calls.{Applied};
 ghost use Rattle.graph.specs.Histories.{History, account, make_of, sealed};
 ghost use Rattle.graph.specs.Makes.{read_only};
 
+use crate::change::Change;
 use crate::editable_graph::EditableGraph;
-use crate::graph::{Graph, contains};
+use crate::graph::Graph;
 use rdf::refusal::Refusal;
 use rdf::triple::Triple;
 
@@ -29,6 +30,16 @@ impl<G: Graph> Sealed<G> {
         ensures make { (h : History) → make_of (sealed h) ≡ ⟦<Sealed<G> as Graph>⟧.make result }
     {
         Sealed { graph }
+    }
+
+    // What comes of a change: it is accepted only where it has no effect.
+    fn answer(&self, change: Change) -> Result<(), Refusal>
+        ensures { Applied change true (G.Graph.triples self.now.graph) (G.Graph.triples self.now.graph) 0 0 result }
+    {
+        if change.has_effect(&self.graph)? {
+            return Err(Refusal::NoPlace);
+        }
+        Ok(())
     }
 }
 
@@ -68,13 +79,7 @@ impl<G: Graph> EditableGraph for Sealed<G> {
         ensures framed { self.new ≡ self.old }
         ensures kept { alters (adding triple) result (G.Graph.triples self.old.graph) ≡ false → self.new ≡ self.old }
     {
-        if !triple.is_triple() {
-            return Err(Refusal::NotATriple);
-        }
-        if contains(&self.graph, triple) {
-            return Ok(());
-        }
-        Err(Refusal::NoPlace)
+        self.answer(Change::Add(triple))
     }
 
     fn remove(&mut self, triple: Triple) -> Result<(), Refusal>
@@ -83,13 +88,7 @@ impl<G: Graph> EditableGraph for Sealed<G> {
         ensures framed { self.new ≡ self.old }
         ensures kept { alters (removing triple) result (G.Graph.triples self.old.graph) ≡ false → self.new ≡ self.old }
     {
-        if !triple.is_triple() {
-            return Err(Refusal::NotATriple);
-        }
-        if !contains(&self.graph, triple) {
-            return Ok(());
-        }
-        Err(Refusal::NoPlace)
+        self.answer(Change::Remove(triple))
     }
 
     fn free(&self) -> usize

@@ -11,10 +11,10 @@ ghost use Rattle.graph.specs.Histories.{account, emptied, make_of};
 ghost use Rattle.graph.specs.Makes.{no_room, stored};
 ghost use Rattle.graph.specs.Reading.{then_empty};
 
+use crate::change::Change;
 use crate::editable_graph::EditableGraph;
 use crate::graph::Graph;
 use order::list::OrderedList;
-use order::total::TotalOrder;
 use rdf::refusal::Refusal;
 use rdf::triple::{NO_TRIPLE, Triple};
 
@@ -47,6 +47,31 @@ impl<'a> StoredGraph<'a> {
     {
         let StoredGraph { list } = self;
         list.into_places()
+    }
+
+    // Makes a change, and empties the place that a removal leaves.
+    fn change(&mut self, change: Change) -> Result<(), Refusal>
+        ensures applied { Applied change (no_room (length self.old.list.places.now - length (elements self.old.list)) change) (elements self.old.list) (elements self.new.list) (length self.old.list.places.now - length (elements self.old.list)) (length self.new.list.places.now - length (elements self.new.list)) result }
+        ensures size { length self.new.list.places.now ≡ length self.old.list.places.now }
+        ensures kept { alters change result (elements self.old.list) ≡ false → self.new ≡ self.old }
+        ensures same { self.new.list.places.ghost_name ≡ self.old.list.places.ghost_name }
+        ensures places { self.new.list.places.now ≡ then_empty (leaves change result (elements self.old.list)) (length self.old.list.places.now) }
+    {
+        if !change.has_effect(self)? {
+            return Ok(());
+        }
+        match change {
+            Change::Add(triple) => {
+                if self.free() == 0 {
+                    return Err(Refusal::NoPlace);
+                }
+                let _made = self.list.put(triple);
+            }
+            Change::Remove(triple) => {
+                let _taken = self.list.take_out(&triple, NO_TRIPLE);
+            }
+        }
+        Ok(())
     }
 }
 
@@ -88,17 +113,7 @@ impl<'a> EditableGraph for StoredGraph<'a> {
         ensures same { self.new.list.places.ghost_name ≡ self.old.list.places.ghost_name }
         ensures places { self.new.list.places.now ≡ then_empty (leaves (adding triple) result (elements self.old.list)) (length self.old.list.places.now) }
     {
-        if !triple.is_triple() {
-            return Err(Refusal::NotATriple);
-        }
-        if self.list.contains(&triple) {
-            return Ok(());
-        }
-        if self.free() == 0 {
-            return Err(Refusal::NoPlace);
-        }
-        let _made = self.list.put(triple);
-        Ok(())
+        self.change(Change::Add(triple))
     }
 
     fn remove(&mut self, triple: Triple) -> Result<(), Refusal>
@@ -109,14 +124,7 @@ impl<'a> EditableGraph for StoredGraph<'a> {
         ensures same { self.new.list.places.ghost_name ≡ self.old.list.places.ghost_name }
         ensures places { self.new.list.places.now ≡ then_empty (leaves (removing triple) result (elements self.old.list)) (length self.old.list.places.now) }
     {
-        if !triple.is_triple() {
-            return Err(Refusal::NotATriple);
-        }
-        if !self.list.contains(&triple) {
-            return Ok(());
-        }
-        let _taken = self.list.take_out(&triple, NO_TRIPLE);
-        Ok(())
+        self.change(Change::Remove(triple))
     }
 
     fn free(&self) -> usize
