@@ -4,6 +4,7 @@
 pub mod change;
 pub mod editable_graph;
 pub mod graph;
+mod marks;
 pub mod overlay;
 pub mod reading;
 pub mod sealed;
