@@ -1,9 +1,10 @@
 -- Shows what a turned mark does to the set of an overlay, and that the change which turns it is applied as it should be.
-use Rattle.std.proofs.Common.{◌≡◌, true, false, cond, not, ◌&&◌, eqb, List, Ok, Err, Result, ap, ◌∙◌}
-use mathlib.Core.Bool.{xor, and-true}
+use Rattle.std.proofs.Common.{◌≡◌, true, false, cond, not, ◌&&◌, eqb, List, [], ◌∷◌, Some, Ok, Err, Result, refl, ap, ◌∙◌}
+use mathlib.Core.Bool.{xor, and-true, and-false}
 use Rattle.std.proofs.lemmas.Bool.{and_parts, both_ways, cond-true, cond-false, eqb-true, not-true}
-use Rattle.std.specs.Ordering.{is_eq}
-use Rattle.order.specs.Sets.{holds, symmetric_difference}
+use Rattle.std.specs.List.{find}
+use Rattle.std.specs.Ordering.{is_eq, is_lt}
+use Rattle.order.specs.Sets.{above, difference, holds, symmetric_difference}
 use Rattle.order.proofs.Comparing.{by_bool}
 use Rattle.order.proofs.SetOperations.{insert_turns, marked_adds, marked_removes, without_turns}
 use Rattle.rdf.specs.RdfOrders.{triple_laws}
@@ -16,6 +17,14 @@ use Rattle.graph.specs.Calls.{Applied}
 use Rattle.graph.specs.Changes.{Change, accepted, after, alters, changed, has_effect, triple_of, verdict}
 use Rattle.graph.specs.Makes.{no_mark, turned, unused}
 use Rattle.graph.proofs.AppliedLaws.{applied_by}
+
+-- the first mark that is above and not beneath is the least of these
+pub first_new : (a : Triple) (m b : List Triple) → find (λ x. is_lt (compare_triples a x) && not (holds compare_triples x b)) m ≡ above compare_triples a (difference compare_triples m b)
+first_new a [] b = refl
+first_new a (x ∷ m) b =
+    by_bool (holds compare_triples x b)
+    (λ h. rw (h, and-false (is_lt (compare_triples a x))) (first_new a m b))
+    (λ h. rw (h, and-true (is_lt (compare_triples a x))) (ap (cond (is_lt (compare_triples a x)) (Some x)) (first_new a m b)))
 
 -- a change with effect alters the set exactly if it is accepted
 pub effect_alters : (c : Change) (r : Result (Unit {0}) Refusal) (s : List Triple) → has_effect c s ≡ true → alters c r s ≡ accepted r
