@@ -8,9 +8,12 @@ use Rattle.rdf.specs.Triples.{compare_triples}
 use Rattle.rdf.specs.contracts.triple.TriplePartialEq.TheImpl.{ghosts as triples}
 use Rattle.rdf.specs.declared.triple.Triple.{Triple}
 
-pub equal_is_eq : (x y : Triple) → triples.eq x y ≡ is_eq (compare_triples y x)
+pub equal_is_eq : (x y : Triple) → triples.eq x y ≡ is_eq (compare_triples x y)
 equal_is_eq x y = grind (arith, nat_tests)
+
+equal_turned : (x y : Triple) → triples.eq x y ≡ is_eq (compare_triples y x)
+equal_turned x y = grind (arith, nat_tests)
 
 pub any_holds : (t : Triple) (xs : List Triple) → list_any (λ y. triples.eq y t) xs ≡ holds compare_triples t xs
 any_holds t [] = refl
-any_holds t (x ∷ xs) = ap₂ ◌||◌ (equal_is_eq x t) (any_holds t xs)
+any_holds t (x ∷ xs) = ap₂ ◌||◌ (equal_turned x t) (any_holds t xs)
