@@ -56,14 +56,8 @@ told_effect c s b e =
     no_error h = cc
 
 module _ (c : Change) (full : Bool) (s : List Triple) (n : ℕ) (honest : full ≡ true → n ≡ 0) where
-  pub not_a_triple : is_triple (triple_of c) ≡ false → Applied c full s s n n (Err NotATriple)
-  not_a_triple t = applied_by c full s s n n honest (Err NotATriple) (rw t) refl (λ _. refl)
-
   pub no_effect : is_triple (triple_of c) ≡ true → has_effect c s ≡ false → TripleSet s → Applied c full s s n n (Ok tt)
   no_effect t none h = applied_by c full s s n n honest (Ok tt) (rw (t, none)) (same_set c s h none) (λ _. refl)
-
-  pub no_place : is_triple (triple_of c) ≡ true → has_effect c s ≡ true → full ≡ true → Applied c full s s n n (Err NoPlace)
-  no_place t some f = applied_by c full s s n n honest (Err NoPlace) (rw (t, some, f)) refl (λ _. refl)
 
   pub carried_out : (exit : List Triple) (left : ℕ) → is_triple (triple_of c) ≡ true → has_effect c s ≡ true → full ≡ false → exit ≡ changed c s → Applied c full s exit n left (Ok tt)
   carried_out exit left t some f e = applied_by c full s exit n left honest (Ok tt) (rw (t, some, f)) e (λ none. absurd (both_ways (has_effect c s) none some))

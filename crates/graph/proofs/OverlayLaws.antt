@@ -26,10 +26,6 @@ first_new a (x ∷ m) b =
     (λ h. rw (h, and-false (is_lt (compare_triples a x))) (first_new a m b))
     (λ h. rw (h, and-true (is_lt (compare_triples a x))) (ap (cond (is_lt (compare_triples a x)) (Some x)) (first_new a m b)))
 
--- a change with effect alters the set exactly if it is accepted
-pub effect_alters : (c : Change) (r : Result (Unit {0}) Refusal) (s : List Triple) → has_effect c s ≡ true → alters c r s ≡ accepted r
-effect_alters c r s some = ap (λ b. accepted r && b) some ∙ and-true (accepted r)
-
 -- no place is found only where none is unused
 pub unused_full : (m : List Triple) (t : Triple) → no_mark m t ≡ true → unused m ≡ 0
 unused_full m t h = eqb-true (unused m) 0 (and_parts (eqb (unused m) 0) (not (holds compare_triples t m)) h).0

@@ -1,6 +1,5 @@
 -- Shows that `contains` tells by one look whether the triple is a member.
-use Rattle.std.proofs.Common.{◌≡◌, ap, ◌∙◌, arith}
-use Rattle.std.specs.Option.{option_eq}
+use Rattle.std.proofs.Common.{◌≡◌, ◌∙◌, arith}
 use Rattle.graph.proofs.LookupLaws.{absent_without_object, next_is_member}
 use Rattle.graph.proofs.graph.contains.Goals as goal
 

@@ -1,8 +1,7 @@
 -- Shows that a mark is put on, and that the marks stay as they must be.
-use Rattle.std.proofs.Common.{◌≡◌, ◌<◌, ◌≤◌, false, true, length, sym, ap, ◌∙◌, subst, arith}
+use Rattle.std.proofs.Common.{◌≡◌, ◌<◌, ◌≤◌, length, sym, ap, ◌∙◌, subst, arith}
 use Rattle.std.proofs.lemmas.List.{length-take-le}
-use Rattle.order.specs.Lists.{every}
-use Rattle.order.specs.Sets.{Ascending, holds, insert}
+use Rattle.order.specs.Sets.{holds, insert}
 use Rattle.order.proofs.Ascents.{ascending_insert}
 use Rattle.order.proofs.Holders.{put_first}
 use Rattle.order.proofs.SetOperations.{every_insert}

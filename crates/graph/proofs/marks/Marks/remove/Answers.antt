@@ -1,7 +1,6 @@
 -- Shows that a mark is taken off, and that the marks stay as they must be.
-use Rattle.std.proofs.Common.{◌≡◌, true, length, sym, ap, ◌∙◌, subst, arith}
-use Rattle.order.specs.Lists.{every}
-use Rattle.order.specs.Sets.{Ascending, holds, without}
+use Rattle.std.proofs.Common.{◌≡◌, length, sym, ap, ◌∙◌, subst, arith}
+use Rattle.order.specs.Sets.{holds, without}
 use Rattle.order.proofs.Ascents.{ascending_without}
 use Rattle.order.proofs.Holders.{take_out_first}
 use Rattle.order.proofs.SetOperations.{every_without}

@@ -1,5 +1,5 @@
 -- Shows what a change comes to on an overlay: no effect, or the mark turned.
-use Rattle.std.proofs.Common.{◌∙◌, ap, cond}
+use Rattle.std.proofs.Common.{◌∙◌}
 use Rattle.order.specs.Sets.{symmetric_difference}
 use Rattle.rdf.specs.Triples.{compare_triples}
 use Rattle.graph.specs.Changes.{triple_of}
