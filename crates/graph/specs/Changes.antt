@@ -7,13 +7,16 @@ use Rattle.rdf.specs.Triples.{compare_triples, is_triple}
 use Rattle.rdf.specs.declared.refusal.Refusal.{Refusal}
 use Rattle.rdf.specs.declared.refusal.Refusal.TheVariants.{NotATriple, NoPlace}
 use Rattle.rdf.specs.declared.triple.Triple.{Triple}
+use Rattle.graph.specs.declared.change.Change.{Change as ByTriple}
 use Rattle.graph.specs.declared.change.Change.TheVariants.{Add, Remove}
--- a call that is to change the set, with its three numbers
-pub use Rattle.graph.specs.declared.change.Change.{Change}
 
 -- the type of a graph's set: a strictly ascending list
 abbrev pub Triples : Type 0
 Triples = List Triple
+
+-- a call that is to change the set, with its three numbers
+abbrev pub Change : Type 0
+Change = ByTriple
 
 -- the change that puts the triple in
 abbrev pub adding : Triple → Change
