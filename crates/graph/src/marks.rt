@@ -99,8 +99,7 @@ impl Marks {
             self.remove(triple);
             return Ok(());
         }
-        let full = self.free() == 0;
-        if full {
+        if self.free() == 0 {
             return Err(Refusal::NoPlace);
         }
         self.insert(triple);

@@ -90,9 +90,7 @@ impl<G: Graph> Graph for Overlay<G> {
 
     ghost ruled = { λ o. overlay_ruled o.marks (G.Graph.triples o.base) o.lawful (G.Graph.lawful o.base) };
 
-    fn next(&self, after: Triple) -> Option<Triple>
-        ensures { result ≡ above compare_triples after (symmetric_difference compare_triples self.now.marks (G.Graph.triples self.now.base)) }
-    {
+    fn next(&self, after: Triple) -> Option<Triple> {
         lesser_of(self.next_new(after), self.next_kept(after))
     }
 }
@@ -127,9 +125,7 @@ impl<G: Graph> EditableGraph for Overlay<G> {
         self.change(Change::Remove(triple))
     }
 
-    fn free(&self) -> usize
-        ensures { result ≡ unused self.now.marks }
-    {
+    fn free(&self) -> usize {
         self.marks.free()
     }
 }

@@ -56,9 +56,7 @@ impl<G: Graph> Graph for Sealed<G> {
 
     ghost ruled = { λ s. (refl, λ c. refl) };
 
-    fn next(&self, after: Triple) -> Option<Triple>
-        ensures { result ≡ above compare_triples after (G.Graph.triples self.now.graph) }
-    {
+    fn next(&self, after: Triple) -> Option<Triple> {
         self.graph.next(after)
     }
 }
@@ -73,27 +71,15 @@ impl<G: Graph> EditableGraph for Sealed<G> {
 
     ghost unaltered = { λ s k. k ≡ s };
 
-    fn add(&mut self, triple: Triple) -> Result<(), Refusal>
-        ensures applied { Applied (adding triple) true (G.Graph.triples self.old.graph) (G.Graph.triples self.new.graph) 0 0 result }
-        ensures make { read_only ≡ read_only }
-        ensures framed { self.new ≡ self.old }
-        ensures kept { alters (adding triple) result (G.Graph.triples self.old.graph) ≡ false → self.new ≡ self.old }
-    {
+    fn add(&mut self, triple: Triple) -> Result<(), Refusal> {
         self.answer(Change::Add(triple))
     }
 
-    fn remove(&mut self, triple: Triple) -> Result<(), Refusal>
-        ensures applied { Applied (removing triple) true (G.Graph.triples self.old.graph) (G.Graph.triples self.new.graph) 0 0 result }
-        ensures make { read_only ≡ read_only }
-        ensures framed { self.new ≡ self.old }
-        ensures kept { alters (removing triple) result (G.Graph.triples self.old.graph) ≡ false → self.new ≡ self.old }
-    {
+    fn remove(&mut self, triple: Triple) -> Result<(), Refusal> {
         self.answer(Change::Remove(triple))
     }
 
-    fn free(&self) -> usize
-        ensures { result ≡ 0 }
-    {
+    fn free(&self) -> usize {
         NO_PLACES
     }
 }

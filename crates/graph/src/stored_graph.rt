@@ -88,9 +88,7 @@ impl<'a> Graph for StoredGraph<'a> {
 
     ghost ruled = { λ g. (refl, λ c. refl) };
 
-    fn next(&self, after: Triple) -> Option<Triple>
-        ensures { result ≡ above compare_triples after (elements self.now.list) }
-    {
+    fn next(&self, after: Triple) -> Option<Triple> {
         self.list.above(&after)
     }
 }
@@ -127,9 +125,7 @@ impl<'a> EditableGraph for StoredGraph<'a> {
         self.change(Change::Remove(triple))
     }
 
-    fn free(&self) -> usize
-        ensures { result ≡ length self.now.list.places.now - length (elements self.now.list) }
-    {
+    fn free(&self) -> usize {
         self.list.free()
     }
 }

@@ -51,9 +51,7 @@ impl<'a> Graph for TripleList<'a> {
 
     ghost ruled = { λ g. (refl, λ c. refl) };
 
-    fn next(&self, after: Triple) -> Option<Triple>
-        ensures { result ≡ above compare_triples after (set_of self.now.entries.now) }
-    {
+    fn next(&self, after: Triple) -> Option<Triple> {
         self.least_above(after)
     }
 }

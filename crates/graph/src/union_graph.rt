@@ -39,9 +39,7 @@ impl<L: Graph, R: Graph> Graph for UnionGraph<L, R> {
 
     ghost ruled = { λ g. (refl, λ c. refl) };
 
-    fn next(&self, after: Triple) -> Option<Triple>
-        ensures { result ≡ above compare_triples after (insert_all compare_triples (L.Graph.triples self.now.left) (R.Graph.triples self.now.right)) }
-    {
+    fn next(&self, after: Triple) -> Option<Triple> {
         lesser_of(self.left.next(after), self.right.next(after))
     }
 }
