@@ -45,6 +45,7 @@ impl<G: Graph> Overlay<G> {
     fn next_kept(&self, after: Triple) -> Option<Triple>
         ensures { result ≡ above compare_triples after (difference compare_triples (G.Graph.triples self.now.base) self.now.marks) }
     {
+        // Kept: as a chain over an iterator of the graph, tried, it needs that iterator's type, members and laws, which are longer.
         let mut at = after;
         while let Some(found) = self.base.next(at) {
             if !self.marks.contains(&found) {

@@ -1,9 +1,6 @@
 // A graph of any kind as one that takes calls and has no place for a change.
-ghost use Rattle.std.specs.Prelude.{◌≡◌, true, false, refl};
+ghost use Rattle.std.specs.Prelude.{◌≡◌, true, refl};
 ghost use Rattle.std.proofs.Common.{◌∙◌};
-ghost use Rattle.order.specs.Sets.{above};
-ghost use Rattle.rdf.specs.Triples.{compare_triples};
-ghost use Rattle.graph.specs.Changes.{adding, alters, removing};
 ghost use Rattle.graph.specs.Calls.{Applied};
 ghost use Rattle.graph.specs.Histories.{History, account, make_of, sealed};
 ghost use Rattle.graph.specs.Makes.{read_only};

@@ -1,7 +1,7 @@
 // A graph that is lent as a list, for reading only.
 ghost use Rattle.std.specs.Prelude.{◌≡◌, true, ◌&&◌, Some, None, filter, fold, refl};
 ghost use Rattle.std.specs.Ordering.{is_lt};
-ghost use Rattle.order.specs.Sets.{above, lesser};
+ghost use Rattle.order.specs.Sets.{lesser};
 ghost use Rattle.rdf.specs.Triples.{compare_triples, is_triple};
 ghost use Rattle.graph.specs.Histories.{account, listed, make_of, set_of};
 ghost use Rattle.graph.specs.Makes.{read_only};

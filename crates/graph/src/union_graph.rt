@@ -1,6 +1,6 @@
 // Two graphs read as one.
 ghost use Rattle.std.specs.Prelude.{◌≡◌, true, refl};
-ghost use Rattle.order.specs.Sets.{above, insert_all};
+ghost use Rattle.order.specs.Sets.{insert_all};
 ghost use Rattle.rdf.specs.Triples.{compare_triples};
 ghost use Rattle.graph.specs.Histories.{History, account, joined, make_of};
 ghost use Rattle.graph.specs.Makes.{read_only};
