@@ -1,5 +1,6 @@
 -- The lemma files of this crate, for other crates to cite.
 pub mod AppliedLaws
+pub mod EqualLaws
 pub mod LookupLaws
 pub mod OverlayLaws
 pub mod ReadingLaws

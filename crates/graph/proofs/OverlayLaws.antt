@@ -1,9 +1,10 @@
 -- Shows what a turned mark does to the set of an overlay, and that the change which turns it is applied as it should be.
-use Rattle.std.proofs.Common.{◌≡◌, true, false, cond, not, ◌&&◌, eqb, List, Ok, Err, Result, ap, ◌∙◌}
-use mathlib.Core.Bool.{xor, and-true}
+use Rattle.std.proofs.Common.{◌≡◌, true, false, cond, not, ◌&&◌, eqb, List, [], ◌∷◌, Some, Ok, Err, Result, refl, ap, ◌∙◌}
+use mathlib.Core.Bool.{xor, and-true, and-false}
 use Rattle.std.proofs.lemmas.Bool.{and_parts, both_ways, cond-true, cond-false, eqb-true, not-true}
-use Rattle.std.specs.Ordering.{is_eq}
-use Rattle.order.specs.Sets.{holds, symmetric_difference}
+use Rattle.std.specs.List.{find}
+use Rattle.std.specs.Ordering.{is_eq, is_lt}
+use Rattle.order.specs.Sets.{above, difference, holds, symmetric_difference}
 use Rattle.order.proofs.Comparing.{by_bool}
 use Rattle.order.proofs.SetOperations.{insert_turns, marked_adds, marked_removes, without_turns}
 use Rattle.rdf.specs.RdfOrders.{triple_laws}
@@ -11,14 +12,19 @@ use Rattle.rdf.specs.Triples.{TripleSet, compare_triples, is_triple}
 use Rattle.rdf.specs.declared.refusal.Refusal.{Refusal}
 use Rattle.rdf.specs.declared.refusal.Refusal.TheVariants.{NoPlace}
 use Rattle.rdf.specs.declared.triple.Triple.{Triple}
+use Rattle.graph.specs.declared.change.Change.TheVariants.{Add, Remove}
 use Rattle.graph.specs.Calls.{Applied}
-use Rattle.graph.specs.Changes.{Change, accepted, adding, after, alters, changed, has_effect, removing, triple_of, verdict}
+use Rattle.graph.specs.Changes.{Change, accepted, after, alters, changed, has_effect, triple_of, verdict}
 use Rattle.graph.specs.Makes.{no_mark, turned, unused}
 use Rattle.graph.proofs.AppliedLaws.{applied_by}
 
--- a change with effect alters the set exactly if it is accepted
-pub effect_alters : (c : Change) (r : Result (Unit {0}) Refusal) (s : List Triple) → has_effect c s ≡ true → alters c r s ≡ accepted r
-effect_alters c r s some = ap (λ b. accepted r && b) some ∙ and-true (accepted r)
+-- the first mark that is above and not beneath is the least of these
+pub first_new : (a : Triple) (m b : List Triple) → find (λ x. is_lt (compare_triples a x) && not (holds compare_triples x b)) m ≡ above compare_triples a (difference compare_triples m b)
+first_new a [] b = refl
+first_new a (x ∷ m) b =
+    by_bool (holds compare_triples x b)
+    (λ h. rw (h, and-false (is_lt (compare_triples a x))) (first_new a m b))
+    (λ h. rw (h, and-true (is_lt (compare_triples a x))) (ap (cond (is_lt (compare_triples a x)) (Some x)) (first_new a m b)))
 
 -- no place is found only where none is unused
 pub unused_full : (m : List Triple) (t : Triple) → no_mark m t ≡ true → unused m ≡ 0
@@ -33,8 +39,8 @@ turns t z m =
 
 -- with the mark turned, the set is the changed one
 turned_set : (c : Change) (m b : List Triple) → TripleSet b → has_effect c (symmetric_difference compare_triples m b) ≡ true → symmetric_difference compare_triples (turned m (triple_of c)) b ≡ changed c (symmetric_difference compare_triples m b)
-turned_set (adding t) m b base some = marked_adds triple_laws t m (turned m t) b base.ascending (λ z. turns t z m) (not-true _ some)
-turned_set (removing t) m b base some = marked_removes triple_laws t m (turned m t) b base.ascending (λ z. turns t z m) some
+turned_set (Add t) m b base some = marked_adds triple_laws t m (turned m t) b base.ascending (λ z. turns t z m) (not-true _ some)
+turned_set (Remove t) m b base some = marked_removes triple_laws t m (turned m t) b base.ascending (λ z. turns t z m) some
 
 module _ (c : Change) (m n b : List Triple) (r : Result (Unit {0}) Refusal) (base : TripleSet b) (triple : is_triple (triple_of c) ≡ true) (some : has_effect c (symmetric_difference compare_triples m b) ≡ true) where
   -- a change with effect turns the mark of its triple, unless there is no place for it

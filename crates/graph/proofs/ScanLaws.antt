@@ -1,5 +1,6 @@
 -- Shows that a scan over the entries of a list, with the best so far, ends at the least triple above the given numbers.
-use Rattle.std.proofs.Common.{◌≡◌, cond, ◌&&◌, List, [], ◌∷◌, Some, filter, Option, ap, ◌∙◌}
+use Rattle.std.proofs.Common.{◌≡◌, cond, ◌&&◌, List, [], ◌∷◌, Some, filter, Option, sym, ap, ◌∙◌}
+use Rattle.std.specs.List.{fold}
 use Rattle.std.specs.Ordering.{is_lt}
 use Rattle.order.specs.Sets.{above, insert, lesser}
 use Rattle.order.proofs.Ascents.{ascending_ascend}
@@ -37,3 +38,10 @@ scan_more a best e es =
     put =
         ap (lesser compare_triples best) (above_insert triple_laws a e (set_of es) (ascending_ascend triple_laws (filter is_triple es)))
         ∙ lesser_assoc triple_laws best (above compare_triples a (e ∷ [])) rest
+
+-- the least of the triples above a, one after the other
+pub fold_scan : (a : Triple) (best : Option Triple) (es : List Triple) → fold (λ b e. lesser compare_triples b (Some e)) best (filter (λ e. is_triple e && is_lt (compare_triples a e)) es) ≡ scan a best es
+fold_scan a best [] = sym (scan_end a best)
+fold_scan a best (e ∷ es) =
+    by_bool (is_triple e && is_lt (compare_triples a e)) (λ h. rw h (fold_scan a (lesser compare_triples best (Some e)) es)) (λ h. rw h (fold_scan a best es))
+    ∙ sym (scan_more a best e es)

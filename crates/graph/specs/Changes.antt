@@ -7,29 +7,38 @@ use Rattle.rdf.specs.Triples.{compare_triples, is_triple}
 use Rattle.rdf.specs.declared.refusal.Refusal.{Refusal}
 use Rattle.rdf.specs.declared.refusal.Refusal.TheVariants.{NotATriple, NoPlace}
 use Rattle.rdf.specs.declared.triple.Triple.{Triple}
+use Rattle.graph.specs.declared.change.Change.{Change as ByTriple}
+use Rattle.graph.specs.declared.change.Change.TheVariants.{Add, Remove}
 
 -- the type of a graph's set: a strictly ascending list
 abbrev pub Triples : Type 0
 Triples = List Triple
 
 -- a call that is to change the set, with its three numbers
-pub data Change : Type 0 where
-  adding : Triple → Change
-  removing : Triple → Change
+abbrev pub Change : Type 0
+Change = ByTriple
+
+-- the change that puts the triple in
+abbrev pub adding : Triple → Change
+adding t = Add t
+
+-- the change that takes it out
+abbrev pub removing : Triple → Change
+removing t = Remove t
 
 abbrev pub triple_of : Change → Triple
-triple_of (adding t) = t
-triple_of (removing t) = t
+triple_of (Add t) = t
+triple_of (Remove t) = t
 
 -- the set after the change was accepted
 abbrev pub changed : Change → List Triple → List Triple
-changed (adding t) s = insert compare_triples t s
-changed (removing t) s = without compare_triples t s
+changed (Add t) s = insert compare_triples t s
+changed (Remove t) s = without compare_triples t s
 
 -- whether that set is another one
 abbrev pub has_effect : Change → List Triple → Bool
-has_effect (adding t) s = not (holds compare_triples t s)
-has_effect (removing t) s = holds compare_triples t s
+has_effect (Add t) s = not (holds compare_triples t s)
+has_effect (Remove t) s = holds compare_triples t s
 
 -- the answer, where `full` tells whether the change finds no place if it has an effect
 abbrev pub verdict : List Triple → Bool → Change → Result (Unit {0}) Refusal

@@ -4,7 +4,8 @@ use Rattle.std.specs.Prelude.{◌≡◌, ℕ, ◌-◌, Bool, true, false, cond, 
 use Rattle.order.specs.Sets.{holds, insert, symmetric_difference, without}
 use Rattle.rdf.specs.Triples.{compare_triples}
 use Rattle.rdf.specs.declared.triple.Triple.{Triple}
-use Rattle.graph.specs.Changes.{Change, adding, removing, triple_of}
+use Rattle.graph.specs.Changes.{Change, triple_of}
+use Rattle.graph.specs.declared.change.Change.TheVariants.{Add, Remove}
 
 pub data Make : Type 0 where
   -- a stored graph with so many places
@@ -18,8 +19,8 @@ pub data Make : Type 0 where
 
 -- a stored graph finds no place for an add if none of its places is free; a removal needs none
 abbrev pub no_room : ℕ → Change → Bool
-no_room free (adding t) = free == 0
-no_room free (removing t) = false
+no_room free (Add t) = free == 0
+no_room free (Remove t) = false
 
 -- how many more triples can be marked in an overlay
 abbrev pub unused : List Triple → ℕ

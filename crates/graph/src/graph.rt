@@ -8,7 +8,6 @@ ghost use Rattle.graph.specs.Makes.{Make, Ruled};
 use order::total::TotalOrder;
 use rdf::term::Term;
 use rdf::triple::Triple;
-use std::cmp::Ordering;
 
 // A finite set of triples that can be read in order. What reads it takes it by `&`, so that the whole graph is what it was before.
 pub trait Graph {
@@ -40,12 +39,9 @@ pub fn lesser_of(left: Option<Triple>, right: Option<Triple>) -> Option<Triple>
     ensures { result ≡ lesser compare_triples left right }
 {
     match (left, right) {
-        (Some(a), Some(b)) => match b.order(&a) {
-            Ordering::Less => Some(b),
-            _ => Some(a),
-        },
-        (Some(a), None) => Some(a),
+        (Some(a), Some(b)) if b.order(&a).is_lt() => right,
         (None, _) => right,
+        _ => left,
     }
 }
 
@@ -53,20 +49,12 @@ pub fn lesser_of(left: Option<Triple>, right: Option<Triple>) -> Option<Triple>
 pub fn contains<G: Graph>(graph: &G, triple: Triple) -> bool
     ensures { result ≡ holds compare_triples triple (G.triples graph.now) }
 {
-    let object = triple.object.0;
-    if object == 0 {
+    let Some(before) = triple.object.0.checked_sub(1) else {
         return false;
-    }
-    let just_before = Triple {
-        subject: triple.subject,
-        predicate: triple.predicate,
-        object: Term(object - 1),
     };
-    match graph.next(just_before) {
-        Some(found) => match found.order(&triple) {
-            Ordering::Equal => true,
-            _ => false,
-        },
-        None => false,
-    }
+    let just_before = Triple {
+        object: Term(before),
+        ..triple
+    };
+    graph.next(just_before) == Some(triple)
 }

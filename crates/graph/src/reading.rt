@@ -15,6 +15,8 @@ pub fn read_all<G: Graph>(graph: &G, memory: &mut [Triple]) -> Result<usize, Ref
     ensures memory { memory.new ≡ read_places (G.triples graph.now) (length memory.old) }
 {
     memory.fill(NO_TRIPLE);
+
+    // Kept: the count is the answer, so it stands beside an iterator over the graph as well, and that needs a type and laws of its own.
     let mut count = 0;
     let mut last = NO_TRIPLE;
     while let Some(triple) = graph.next(last) {

@@ -1,16 +1,13 @@
 // A graph of any kind as one that takes calls and has no place for a change.
-ghost use Rattle.std.specs.Prelude.{◌≡◌, true, false, refl};
+ghost use Rattle.std.specs.Prelude.{◌≡◌, true, refl};
 ghost use Rattle.std.proofs.Common.{◌∙◌};
-ghost use Rattle.order.specs.Sets.{above};
-ghost use Rattle.rdf.specs.Triples.{compare_triples};
-ghost use Rattle.graph.specs.Changes.{adding, alters, removing};
 ghost use Rattle.graph.specs.Calls.{Applied};
+ghost use Rattle.graph.specs.Histories.{History, account, make_of, sealed};
 ghost use Rattle.graph.specs.Makes.{read_only};
 
-mod opening;
-
+use crate::change::Change;
 use crate::editable_graph::EditableGraph;
-use crate::graph::{Graph, contains};
+use crate::graph::Graph;
 use rdf::refusal::Refusal;
 use rdf::triple::Triple;
 
@@ -21,6 +18,26 @@ const NO_PLACES: usize = 0;
 #[derive(Drop)]
 pub struct Sealed<G> {
     graph: G,
+}
+
+impl<G: Graph> Sealed<G> {
+    pub fn new(graph: G) -> Self
+        ensures kept { result.graph ≡ graph }
+        ensures history { (h : History) → account h ≡ G.Graph.triples graph → account (sealed h) ≡ ⟦<Sealed<G> as Graph>⟧.triples result }
+        ensures make { (h : History) → make_of (sealed h) ≡ ⟦<Sealed<G> as Graph>⟧.make result }
+    {
+        Sealed { graph }
+    }
+
+    // What comes of a change: it is accepted only where it has no effect.
+    fn answer(&self, change: Change) -> Result<(), Refusal>
+        ensures { Applied change true (G.Graph.triples self.now.graph) (G.Graph.triples self.now.graph) 0 0 result }
+    {
+        if change.has_effect(&self.graph)? {
+            return Err(Refusal::NoPlace);
+        }
+        Ok(())
+    }
 }
 
 impl<G: Graph> Graph for Sealed<G> {
@@ -36,9 +53,7 @@ impl<G: Graph> Graph for Sealed<G> {
 
     ghost ruled = { λ s. (refl, λ c. refl) };
 
-    fn next(&self, after: Triple) -> Option<Triple>
-        ensures { result ≡ above compare_triples after (G.Graph.triples self.now.graph) }
-    {
+    fn next(&self, after: Triple) -> Option<Triple> {
         self.graph.next(after)
     }
 }
@@ -53,39 +68,15 @@ impl<G: Graph> EditableGraph for Sealed<G> {
 
     ghost unaltered = { λ s k. k ≡ s };
 
-    fn add(&mut self, triple: Triple) -> Result<(), Refusal>
-        ensures applied { Applied (adding triple) true (G.Graph.triples self.old.graph) (G.Graph.triples self.new.graph) 0 0 result }
-        ensures make { read_only ≡ read_only }
-        ensures framed { self.new ≡ self.old }
-        ensures kept { alters (adding triple) result (G.Graph.triples self.old.graph) ≡ false → self.new ≡ self.old }
-    {
-        if !triple.is_triple() {
-            return Err(Refusal::NotATriple);
-        }
-        if contains(&self.graph, triple) {
-            return Ok(());
-        }
-        Err(Refusal::NoPlace)
+    fn add(&mut self, triple: Triple) -> Result<(), Refusal> {
+        self.answer(Change::Add(triple))
     }
 
-    fn remove(&mut self, triple: Triple) -> Result<(), Refusal>
-        ensures applied { Applied (removing triple) true (G.Graph.triples self.old.graph) (G.Graph.triples self.new.graph) 0 0 result }
-        ensures make { read_only ≡ read_only }
-        ensures framed { self.new ≡ self.old }
-        ensures kept { alters (removing triple) result (G.Graph.triples self.old.graph) ≡ false → self.new ≡ self.old }
-    {
-        if !triple.is_triple() {
-            return Err(Refusal::NotATriple);
-        }
-        if !contains(&self.graph, triple) {
-            return Ok(());
-        }
-        Err(Refusal::NoPlace)
+    fn remove(&mut self, triple: Triple) -> Result<(), Refusal> {
+        self.answer(Change::Remove(triple))
     }
 
-    fn free(&self) -> usize
-        ensures { result ≡ 0 }
-    {
+    fn free(&self) -> usize {
         NO_PLACES
     }
 }

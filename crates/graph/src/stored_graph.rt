@@ -7,15 +7,14 @@ ghost use Rattle.order.specs.Sets.{above};
 ghost use Rattle.rdf.specs.Triples.{compare_triples, is_triple, no_triple};
 ghost use Rattle.graph.specs.Changes.{adding, after as leaves, alters, removing};
 ghost use Rattle.graph.specs.Calls.{Applied};
+ghost use Rattle.graph.specs.Histories.{account, emptied, make_of};
 ghost use Rattle.graph.specs.Makes.{no_room, stored};
 ghost use Rattle.graph.specs.Reading.{then_empty};
 
-mod opening;
-
+use crate::change::Change;
 use crate::editable_graph::EditableGraph;
 use crate::graph::Graph;
 use order::list::OrderedList;
-use order::total::TotalOrder;
 use rdf::refusal::Refusal;
 use rdf::triple::{NO_TRIPLE, Triple};
 
@@ -26,6 +25,54 @@ pub struct StoredGraph<'a> {
     ghost ordered: { Ordered compare_triples list },
     ghost members: { every is_triple (elements list) ≡ true },
     ghost zeros: { spare list ≡ replicate (length (spare list)) no_triple },
+}
+
+impl<'a> StoredGraph<'a> {
+    // Opens a stored graph: every place is emptied.
+    pub fn new(places: &'a mut [Triple]) -> Self
+        ensures same { result.list.places.ghost_name ≡ places.entry.ghost_name }
+        ensures empty { result.list.places.now ≡ replicate (length places.old) no_triple }
+        ensures history { account (emptied (length places.old)) ≡ ⟦<StoredGraph<'a> as Graph>⟧.triples result }
+        ensures make { make_of (emptied (length places.old)) ≡ ⟦<StoredGraph<'a> as Graph>⟧.make result }
+    {
+        StoredGraph {
+            list: OrderedList::cleared(places, NO_TRIPLE),
+        }
+    }
+
+    // Gives the places back: the set, ascending, and empty places after it.
+    pub fn into_places(self) -> &'a mut [Triple]
+        ensures same { result.ghost_name ≡ self.entry.list.places.ghost_name }
+        ensures places { result.now ≡ then_empty (⟦<StoredGraph<'a> as Graph>⟧.triples self.entry) (length self.entry.list.places.now) }
+    {
+        let StoredGraph { list } = self;
+        list.into_places()
+    }
+
+    // Makes a change, and empties the place that a removal leaves.
+    fn change(&mut self, change: Change) -> Result<(), Refusal>
+        ensures applied { Applied change (no_room (length self.old.list.places.now - length (elements self.old.list)) change) (elements self.old.list) (elements self.new.list) (length self.old.list.places.now - length (elements self.old.list)) (length self.new.list.places.now - length (elements self.new.list)) result }
+        ensures size { length self.new.list.places.now ≡ length self.old.list.places.now }
+        ensures kept { alters change result (elements self.old.list) ≡ false → self.new ≡ self.old }
+        ensures same { self.new.list.places.ghost_name ≡ self.old.list.places.ghost_name }
+        ensures places { self.new.list.places.now ≡ then_empty (leaves change result (elements self.old.list)) (length self.old.list.places.now) }
+    {
+        if !change.has_effect(self)? {
+            return Ok(());
+        }
+        match change {
+            Change::Add(triple) => {
+                if self.free() == 0 {
+                    return Err(Refusal::NoPlace);
+                }
+                let _made = self.list.put(triple);
+            }
+            Change::Remove(triple) => {
+                let _taken = self.list.take_out(&triple, NO_TRIPLE);
+            }
+        }
+        Ok(())
+    }
 }
 
 impl<'a> Graph for StoredGraph<'a> {
@@ -41,9 +88,7 @@ impl<'a> Graph for StoredGraph<'a> {
 
     ghost ruled = { λ g. (refl, λ c. refl) };
 
-    fn next(&self, after: Triple) -> Option<Triple>
-        ensures { result ≡ above compare_triples after (elements self.now.list) }
-    {
+    fn next(&self, after: Triple) -> Option<Triple> {
         self.list.above(&after)
     }
 }
@@ -66,17 +111,7 @@ impl<'a> EditableGraph for StoredGraph<'a> {
         ensures same { self.new.list.places.ghost_name ≡ self.old.list.places.ghost_name }
         ensures places { self.new.list.places.now ≡ then_empty (leaves (adding triple) result (elements self.old.list)) (length self.old.list.places.now) }
     {
-        if !triple.is_triple() {
-            return Err(Refusal::NotATriple);
-        }
-        if self.list.contains(&triple) {
-            return Ok(());
-        }
-        if self.free() == 0 {
-            return Err(Refusal::NoPlace);
-        }
-        let _made = self.list.put(triple);
-        Ok(())
+        self.change(Change::Add(triple))
     }
 
     fn remove(&mut self, triple: Triple) -> Result<(), Refusal>
@@ -87,19 +122,10 @@ impl<'a> EditableGraph for StoredGraph<'a> {
         ensures same { self.new.list.places.ghost_name ≡ self.old.list.places.ghost_name }
         ensures places { self.new.list.places.now ≡ then_empty (leaves (removing triple) result (elements self.old.list)) (length self.old.list.places.now) }
     {
-        if !triple.is_triple() {
-            return Err(Refusal::NotATriple);
-        }
-        if !self.list.contains(&triple) {
-            return Ok(());
-        }
-        let _taken = self.list.take_out(&triple, NO_TRIPLE);
-        Ok(())
+        self.change(Change::Remove(triple))
     }
 
-    fn free(&self) -> usize
-        ensures { result ≡ length self.now.list.places.now - length (elements self.now.list) }
-    {
+    fn free(&self) -> usize {
         self.list.free()
     }
 }

@@ -1,18 +1,15 @@
 // A graph that is lent as a list, for reading only.
-ghost use Rattle.std.specs.Prelude.{◌≡◌, true, ◌&&◌, if◌then◌else◌, Some, refl};
+ghost use Rattle.std.specs.Prelude.{◌≡◌, true, ◌&&◌, Some, None, filter, fold, refl};
 ghost use Rattle.std.specs.Ordering.{is_lt};
-ghost use Rattle.order.specs.Sets.{above, lesser};
+ghost use Rattle.order.specs.Sets.{lesser};
 ghost use Rattle.rdf.specs.Triples.{compare_triples, is_triple};
-ghost use Rattle.graph.specs.Histories.{set_of};
+ghost use Rattle.graph.specs.Histories.{account, listed, make_of, set_of};
 ghost use Rattle.graph.specs.Makes.{read_only};
 ghost use Rattle.graph.specs.GraphLaws.{set_of_lawful};
-
-mod opening;
 
 use crate::graph::{Graph, lesser_of};
 use order::total::TotalOrder;
 use rdf::triple::Triple;
-use std::cmp::Ordering;
 
 // The entries in any order, with repeats; those that are no triples do not count.
 #[derive(Clone, Copy)]
@@ -20,16 +17,24 @@ pub struct TripleList<'a> {
     entries: &'a [Triple],
 }
 
-// The better of the best so far and a candidate, which counts if it is a triple above `after`.
-fn nearer(after: Triple, best: Option<Triple>, candidate: Triple) -> Option<Triple>
-    ensures { result ≡ (if is_triple candidate && is_lt (compare_triples after candidate) then lesser compare_triples best (Some candidate) else best) }
-{
-    if !candidate.is_triple() {
-        return best;
+impl<'a> TripleList<'a> {
+    pub fn new(entries: &'a [Triple]) -> Self
+        ensures kept { result.entries.now ≡ entries.now }
+        ensures history { account (listed entries.now) ≡ ⟦<TripleList<'a> as Graph>⟧.triples result }
+        ensures make { make_of (listed entries.now) ≡ ⟦<TripleList<'a> as Graph>⟧.make result }
+    {
+        TripleList { entries }
     }
-    match after.order(&candidate) {
-        Ordering::Less => lesser_of(best, Some(candidate)),
-        _ => best,
+
+    // The least of the entries that are triples above `after`.
+    fn least_above(&self, after: Triple) -> Option<Triple>
+        ensures { result ≡ fold (λ best entry. lesser compare_triples best (Some entry)) None (filter (λ entry. is_triple entry && is_lt (compare_triples after entry)) self.now.entries.now) }
+    {
+        self.entries
+            .iter()
+            .copied()
+            .filter(|entry| entry.is_triple() && after.order(entry).is_lt())
+            .fold(None, |best, entry| lesser_of(best, Some(entry)))
     }
 }
 
@@ -46,13 +51,7 @@ impl<'a> Graph for TripleList<'a> {
 
     ghost ruled = { λ g. (refl, λ c. refl) };
 
-    fn next(&self, after: Triple) -> Option<Triple>
-        ensures { result ≡ above compare_triples after (set_of self.now.entries.now) }
-    {
-        let mut best = None;
-        for candidate in self.entries {
-            best = nearer(after, best, *candidate);
-        }
-        best
+    fn next(&self, after: Triple) -> Option<Triple> {
+        self.least_above(after)
     }
 }

@@ -1,11 +1,10 @@
 // Two graphs read as one.
 ghost use Rattle.std.specs.Prelude.{◌≡◌, true, refl};
-ghost use Rattle.order.specs.Sets.{above, insert_all};
+ghost use Rattle.order.specs.Sets.{insert_all};
 ghost use Rattle.rdf.specs.Triples.{compare_triples};
+ghost use Rattle.graph.specs.Histories.{History, account, joined, make_of};
 ghost use Rattle.graph.specs.Makes.{read_only};
 ghost use Rattle.graph.specs.GraphLaws.{union_lawful};
-
-mod opening;
 
 use crate::graph::{Graph, lesser_of};
 use rdf::triple::Triple;
@@ -15,6 +14,16 @@ use rdf::triple::Triple;
 pub struct UnionGraph<L, R> {
     left: L,
     right: R,
+}
+
+impl<L: Graph, R: Graph> UnionGraph<L, R> {
+    pub fn new(left: L, right: R) -> Self
+        ensures kept { (result.left ≡ left) × (result.right ≡ right) }
+        ensures history { (h k : History) → account h ≡ L.Graph.triples left → account k ≡ R.Graph.triples right → account (joined h k) ≡ ⟦<UnionGraph<L, R> as Graph>⟧.triples result }
+        ensures make { (h k : History) → make_of (joined h k) ≡ ⟦<UnionGraph<L, R> as Graph>⟧.make result }
+    {
+        UnionGraph { left, right }
+    }
 }
 
 impl<L: Graph, R: Graph> Graph for UnionGraph<L, R> {
@@ -30,9 +39,7 @@ impl<L: Graph, R: Graph> Graph for UnionGraph<L, R> {
 
     ghost ruled = { λ g. (refl, λ c. refl) };
 
-    fn next(&self, after: Triple) -> Option<Triple>
-        ensures { result ≡ above compare_triples after (insert_all compare_triples (L.Graph.triples self.now.left) (R.Graph.triples self.now.right)) }
-    {
+    fn next(&self, after: Triple) -> Option<Triple> {
         lesser_of(self.left.next(after), self.right.next(after))
     }
 }

@@ -2,6 +2,7 @@
 #![tactic(auto)]
 
 mod histories;
+mod printing;
 mod single;
 
 use graph::editable_graph::EditableGraph;
@@ -13,6 +14,7 @@ use graph::stored_graph::StoredGraph;
 use graph::triple_list::TripleList;
 use graph::union_graph::UnionGraph;
 use histories::read_pair;
+use printing::{Numbers, Outcome, Refused};
 use rdf::refusal::Refusal;
 use rdf::term::Term;
 use rdf::triple::{NO_TRIPLE, Triple};
@@ -32,35 +34,24 @@ fn numbered(n: u32) -> Triple {
     triple(17, 1, n.saturating_mul(4).saturating_add(1))
 }
 
-fn print_triple(rt: &impl Print, before: &str, t: Triple) -> io::Result<()> {
-    let Triple {
-        subject: Term(s),
-        predicate: Term(p),
-        object: Term(o),
-    } = t;
-    print!(rt; "{before} {s} {p} {o}")
-}
-
-fn print_answer(rt: &impl Print, answer: Result<(), Refusal>) -> io::Result<()> {
-    match answer {
-        Ok(()) => println!(rt; ": accepted"),
-        Err(refusal) => {
-            let number = refusal.number();
-            println!(rt; ": refused by {number}")
-        }
-    }
+// Prints a change and what came of it.
+fn print_change(
+    rt: &impl Print,
+    name: &str,
+    t: Triple,
+    answer: Result<(), Refusal>,
+) -> io::Result<()> {
+    println!(rt; "  {name} {}: {}", Numbers(t), Outcome(answer))
 }
 
 fn add<G: EditableGraph>(rt: &impl Print, graph: &mut G, t: Triple) -> io::Result<()> {
     let answer = graph.add(t);
-    print_triple(rt, "  add", t)?;
-    print_answer(rt, answer)
+    print_change(rt, "add", t, answer)
 }
 
 fn remove<G: EditableGraph>(rt: &impl Print, graph: &mut G, t: Triple) -> io::Result<()> {
     let answer = graph.remove(t);
-    print_triple(rt, "  remove", t)?;
-    print_answer(rt, answer)
+    print_change(rt, "remove", t, answer)
 }
 
 fn print_free<G: EditableGraph>(rt: &impl Print, graph: &G) -> io::Result<()> {
@@ -75,15 +66,11 @@ fn print_memory(
 ) -> io::Result<()> {
     match count {
         Ok(count) => println!(rt; "  {count} triples")?,
-        Err(refusal) => {
-            let number = refusal.number();
-            println!(rt; "  refused by {number}")?;
-        }
+        Err(refusal) => println!(rt; "  {}", Refused(refusal))?,
     }
     for place in memory {
         if place.is_triple() {
-            print_triple(rt, "   ", *place)?;
-            println!(rt)?;
+            println!(rt; "    {}", Numbers(*place))?;
         }
     }
     Ok(())
@@ -211,8 +198,7 @@ fn joined(rt: &impl Print) -> io::Result<()> {
     let mut places = [numbered(7); 2];
     let mut memory = [NO_TRIPLE; 3];
     let read = read_pair(&mut places, &entries, triple(6, 5, 9), &mut memory);
-    print_triple(rt, "  add", triple(6, 5, 9))?;
-    print_answer(rt, read.change)?;
+    print_change(rt, "add", triple(6, 5, 9), read.change)?;
     print_memory(rt, read.count, &memory)
 }
 

@@ -7,7 +7,6 @@ ghost use Rattle.graph.specs.Makes.{other};
 use graph::graph::Graph;
 use order::total::TotalOrder;
 use rdf::triple::Triple;
-use std::cmp::Ordering;
 
 // Means the set of its triple, and the empty set where the three numbers are none.
 #[derive(Drop)]
@@ -29,12 +28,10 @@ impl Graph for Single {
     ghost ruled = { λ g c h. refl };
 
     fn next(&self, after: Triple) -> Option<Triple> {
-        if !self.triple.is_triple() {
-            return None;
-        }
-        match after.order(&self.triple) {
-            Ordering::Less => Some(self.triple),
-            _ => None,
+        if self.triple.is_triple() && after.order(&self.triple).is_lt() {
+            Some(self.triple)
+        } else {
+            None
         }
     }
 }
