@@ -2,8 +2,6 @@
 ghost use Rattle.semantics.specs.Examples.{WorkedExamples};
 
 // Solutions, sizes of working sets, refusals and memories over a small graph.
-pub fn worked_examples_hold() -> u8
+pub fn worked_examples_hold()
     ensures { WorkedExamples }
-{
-    0
-}
+{}

@@ -5,114 +5,82 @@ ghost use Rattle.semantics.specs.SolutionLaws.{BlankNodesStay, ExistsIsAgreement
 ghost use Rattle.semantics.specs.WorkingLaws.{BottomUpHasAsLarge, SizesAreOfSets, StepsAreRight, TopDownNeedsNoMore};
 
 // The solutions of a pattern are in order with no row twice, and no other list in order has these members.
-pub fn solution_set_law() -> u8
+pub fn solution_set_law()
     ensures { SolutionsAreASet }
-{
-    0
-}
+{}
 
 // The solutions of a pattern are exactly the rows that solve it.
-pub fn solutions_law() -> u8
+pub fn solutions_law()
     ensures { SolutionsSolve }
-{
-    0
-}
+{}
 
 // A condition is true exactly where it holds, and false exactly where it fails.
-pub fn truth_law() -> u8
+pub fn truth_law()
     ensures { TruthTells }
-{
-    0
-}
+{}
 
 // The solutions of a pattern are rows: sixteen places, each 0 or a term.
-pub fn rows_law() -> u8
+pub fn rows_law()
     ensures { SolutionsAreRows }
-{
-    0
-}
+{}
 
 // A pattern that ignores the row has the same solutions at every row.
-pub fn ignored_row_law() -> u8
+pub fn ignored_row_law()
     ensures { IgnoredRow }
-{
-    0
-}
+{}
 
 // FILTER by EXISTS of the current row joined with a pattern that ignores it keeps the rows that have a partner.
-pub fn exists_law() -> u8
+pub fn exists_law()
     ensures { ExistsIsAgreement }
-{
-    0
-}
+{}
 
 // EXISTS never takes one blank node for another.
-pub fn blank_node_law() -> u8
+pub fn blank_node_law()
     ensures { BlankNodesStay }
-{
-    0
-}
+{}
 
 // The steps top down give exactly the solutions that agree with the given row.
-pub fn steps_law() -> u8
+pub fn steps_law()
     ensures { StepsAreRight }
-{
-    0
-}
+{}
 
 // The sizes that are listed for a question are those of the sets that are worked out for it.
-pub fn working_sets_law() -> u8
+pub fn working_sets_law()
     ensures { SizesAreOfSets }
-{
-    0
-}
+{}
 
 // Top down never needs a larger set than bottom up.
-pub fn top_down_law() -> u8
+pub fn top_down_law()
     ensures sizes { TopDownNeedsNoMore }
     ensures sets { BottomUpHasAsLarge }
-{
-    0
-}
+{}
 
 // The tree at an entry is made of the trees at the entries that it names.
-pub fn tree_law() -> u8
+pub fn tree_law()
     ensures { TreesFollowEntries }
-{
-    0
-}
+{}
 
 // Which check refuses a question, and what is told where none does.
-pub fn answer_law() -> u8
+pub fn answer_law()
     ensures { AnswersAreDecided }
-{
-    0
-}
+{}
 
 // What is accepted bottom up is accepted top down, with the same list and no larger number.
-pub fn both_ways_law() -> u8
+pub fn both_ways_law()
     ensures { TopDownAcceptsMore }
-{
-    0
-}
+{}
 
 // The rows that a question answers are rows: sixteen places, each 0 or a term.
-pub fn answer_rows_law() -> u8
+pub fn answer_rows_law()
     ensures { AnswersAreRows }
-{
-    0
-}
+{}
 
 // What each answer leaves in reading memory and in row memory.
-pub fn memory_law() -> u8
+pub fn memory_law()
     ensures { MemoryIsLeft }
-{
-    0
-}
+{}
 
 // Whoever answers a question by the rules both ways, over the same triples and in memories of one size, keeps the promise.
-pub fn promise_law() -> u8
+pub fn promise_law()
     ensures { PromiseKept }
-{
-    0
-}
+{}
