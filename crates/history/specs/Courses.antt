@@ -40,7 +40,7 @@ was_accepted (Least t) = false
 was_accepted Accepted = true
 was_accepted (Refused f) = false
 was_accepted (Places n) = false
-was_accepted (Solved n k) = false
+was_accepted (Solved n) = false
 
 -- what an account is told of a call
 abbrev pub event_of : Call → Answer → Event

@@ -11,6 +11,7 @@ use Rattle.rdf.specs.Triples.{compare_triples, is_triple}
 use Rattle.graph.specs.Changes.{Change, adding, removing, triple_of, has_effect, verdict}
 use Rattle.graph.specs.Makes.{Make, Ruled}
 use Rattle.graph.specs.Histories.{recorded, make_of}
+use Rattle.semantics.specs.declared.worked.Worked.{Worked}
 use Rattle.semantics.specs.Questions.{answer, reply, refusal_number, reading_after, rows_after}
 use Rattle.semantics.specs.Questions as question
 use Rattle.history.specs.declared.step.Question.{Question}
@@ -27,8 +28,8 @@ changed_by (Ok _) = Accepted
 changed_by (Err f) = Refused f
 
 -- the answer to a question
-abbrev pub solved_by : Result (ℕ × ℕ) Refusal → Answer
-solved_by (Ok n) = Solved n.0 n.1
+abbrev pub solved_by : Result Worked Refusal → Answer
+solved_by (Ok n) = Solved n
 solved_by (Err f) = Refused f
 
 -- the number by which a call was refused, 0 where it was not
@@ -38,7 +39,7 @@ number_of (Least t) = 0
 number_of Accepted = 0
 number_of (Refused f) = number f
 number_of (Places n) = 0
-number_of (Solved n k) = 0
+number_of (Solved n) = 0
 
 -- 12 exactly if the numbers are no triple, 13 exactly if a change with effect finds no place
 abbrev pub change_number : List Triple → (Change → Bool) → Change → ℕ

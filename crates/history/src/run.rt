@@ -1,6 +1,5 @@
 // Carrying out whole logs of calls.
-ghost use Rattle.std.specs.Prelude.{◌≡◌, min, List, map, length};
-ghost use Rattle.engine.specs.Solving.{Asked};
+ghost use Rattle.std.specs.Prelude.{◌≡◌, List, map, length};
 ghost use Rattle.graph.specs.Histories.{make_of};
 ghost use Rattle.history.specs.Courses.{Course, account_of, history_of, since};
 ghost use Rattle.history.specs.Replies.{Leaves, answer_to, changed_by, first_places, reading_since, rows_since, solved_by};
@@ -8,21 +7,13 @@ ghost use Rattle.history.specs.Runs.{Carries, Runs};
 ghost use Rattle.semantics.specs.Questions.{reading_after, reply, rows_after};
 
 use crate::step::{Answer, Call, Question, Step};
-use engine::question::{bottom_up, top_down};
+use engine::question;
 use graph::editable_graph::EditableGraph;
 use graph::graph::Graph;
-use query::table::Query;
 use rdf::refusal::Refusal;
 use rdf::row::Row;
 use rdf::triple::Triple;
-use semantics::strategy::Strategy;
-
-// The number, or the size where that is less.
-pub(crate) fn within(number: usize, size: usize) -> usize
-    ensures { result ≡ min number size }
-{
-    if number < size { number } else { size }
-}
+use semantics::worked::Worked;
 
 // The answer to a change.
 fn changed(res: Result<(), Refusal>) -> Answer
@@ -35,29 +26,12 @@ fn changed(res: Result<(), Refusal>) -> Answer
 }
 
 // The answer to a question.
-fn solved(res: Result<(usize, usize), Refusal>) -> Answer
+fn solved(res: Result<Worked, Refusal>) -> Answer
     ensures { result ≡ solved_by res }
 {
     match res {
-        Ok((solutions, largest)) => Answer::Solved(solutions, largest),
+        Ok(worked) => Answer::Solved(worked),
         Err(refusal) => Answer::Refused(refusal),
-    }
-}
-
-// Puts a question by a strategy.
-pub(crate) fn put<G: Graph>(
-    strategy: Strategy,
-    graph: &G,
-    query: &Query,
-    start: &Row,
-    reading: &mut [Triple],
-    rows: &mut [Row],
-) -> Result<(usize, usize), Refusal>
-    ensures { Asked strategy (G.triples graph.now) query.now.entries.now query.now.values.now start.now reading.old reading.new rows.old rows.new result }
-{
-    match strategy {
-        Strategy::BottomUp => bottom_up(graph, query, start, reading, rows),
-        Strategy::TopDown => top_down(graph, query, start, reading, rows),
     }
 }
 
@@ -67,9 +41,9 @@ fn ask<G: Graph>(graph: &G, question: &Question, reading: &mut [Triple], rows: &
     ensures reading { reading.new ≡ first_places question.now.reading (reading_after (answer_to (length reading.old) (length rows.old) (G.triples graph.now) question.now) (G.triples graph.now)) reading.old }
     ensures rows { rows.new ≡ first_places question.now.rows (rows_after (answer_to (length reading.old) (length rows.old) (G.triples graph.now) question.now)) rows.old }
 {
-    let places = within(question.reading, reading.len());
-    let share = within(question.rows, rows.len());
-    solved(put(
+    let places = question.reading.min(reading.len());
+    let share = question.rows.min(rows.len());
+    solved(question::ask(
         question.strategy,
         graph,
         &question.query,

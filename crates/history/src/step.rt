@@ -4,6 +4,7 @@ use rdf::refusal::Refusal;
 use rdf::row::Row;
 use rdf::triple::Triple;
 use semantics::strategy::Strategy;
+use semantics::worked::Worked;
 
 // A question that is put in the course of a run. It works in the first places of the memory that is lent to the run: in as many as it
 // asks for, and in all where there are fewer.
@@ -46,8 +47,8 @@ pub enum Answer {
     Refused(Refusal),
     // So many places are free.
     Places(usize),
-    // The question has so many solutions, and its largest working set so many rows.
-    Solved(usize, usize),
+    // The question was worked out.
+    Solved(Worked),
 }
 
 // One entry of a log: a call, and the place for its answer.

@@ -5,6 +5,7 @@ use history::step::{Answer, Call, Step};
 use rdf::refusal::Refusal;
 use rdf::row::Row;
 use rdf::triple::Triple;
+use semantics::worked::Worked;
 use std::io;
 
 // Prints a set that was read into memory.
@@ -32,11 +33,11 @@ pub(crate) fn print_set(
 // Prints the solutions that a question left in row memory, and their number and that of the rows of the largest working set.
 pub(crate) fn print_answer(
     rt: &impl Print,
-    answer: Result<(usize, usize), Refusal>,
+    answer: Result<Worked, Refusal>,
     rows: &[Row],
 ) -> io::Result<()> {
     match answer {
-        Ok((count, largest)) => {
+        Ok(Worked { count, largest }) => {
             println!(rt; "  {count} found, largest working set {largest}:")?;
             print_solutions(rt, rows)
         }
@@ -90,7 +91,7 @@ fn print_reply(rt: &impl Print, answer: &Answer) -> io::Result<()> {
             println!(rt; "sent back, number {number}")
         }
         Answer::Places(free) => println!(rt; "{free}"),
-        Answer::Solved(count, largest) => {
+        Answer::Solved(Worked { count, largest }) => {
             println!(rt; "{count} found, largest working set {largest}")
         }
     }

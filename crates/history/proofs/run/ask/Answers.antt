@@ -12,18 +12,18 @@ returns g c =
     let m = c.args.reading.now in
     let w = c.args.rows.now in
     let told : ℕ → ℕ → question.Answer = λ i j. answer q.strategy s q.query.entries.now q.query.values.now q.start i j in
-    let places = c.within-places.result in
-    let share = c.within-share.result in
-    let few = as_many m q.reading places c.within-places.ensures in
-    let some = as_many w q.rows share c.within-share.ensures in
+    let places = c.min-places.result in
+    let share = c.min-share.result in
+    let few = as_many m q.reading places c.min-places.ensures in
+    let some = as_many w q.rows share c.min-share.ensures in
     record {
-      answer = c.solved.ensures ∙ ap solved_by (c.put.ensures.answered ∙ ap₂ (λ i j. reply (told i j)) few some);
+      answer = c.solved.ensures ∙ ap solved_by (c.ask.ensures.answered ∙ ap₂ (λ i j. reply (told i j)) few some);
       reading =
           ap₂ ◌++◌
-          (c.put.ensures.reading_is ∙ ap₂ (λ i j. reading_after (told i j) s (take places m)) few some ∙ ap (reading_after (told _ _) s) (first_taken m q.reading places c.within-places.ensures))
-          (others_left m q.reading places c.within-places.ensures);
+          (c.ask.ensures.reading_is ∙ ap₂ (λ i j. reading_after (told i j) s (take places m)) few some ∙ ap (reading_after (told _ _) s) (first_taken m q.reading places c.min-places.ensures))
+          (others_left m q.reading places c.min-places.ensures);
       rows =
           ap₂ ◌++◌
-          (c.put.ensures.rows_are ∙ ap₂ (λ i j. rows_after (told i j) (take share w)) few some ∙ ap (rows_after (told _ _)) (first_taken w q.rows share c.within-share.ensures))
-          (others_left w q.rows share c.within-share.ensures);
+          (c.ask.ensures.rows_are ∙ ap₂ (λ i j. rows_after (told i j) (take share w)) few some ∙ ap (rows_after (told _ _)) (first_taken w q.rows share c.min-share.ensures))
+          (others_left w q.rows share c.min-share.ensures);
     }
