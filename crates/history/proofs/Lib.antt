@@ -1,5 +1,4 @@
 mod LogLaws
 mod MemoryLaws
 mod OutcomeLaws
-mod ReplyLaws
 mod RunLaws

@@ -1,5 +1,5 @@
 -- A log of calls, one call after another: what a run comes to for the account, the make, the answers and the memories of a course.
-use Rattle.std.proofs.Common.{◌≡◌, ℕ, ◌+◌, ◌<◌, Bool, false, cond, ◌&&◌, List, [], ◌∷◌, ◌++◌, map, length, get_or, take, set, Ok, Err, Result, sym, refl, ap, ◌∙◌, subst, ap₂, subst₂}
+use Rattle.std.proofs.Common.{◌≡◌, ℕ, ◌+◌, ◌<◌, Bool, false, cond, ◌&&◌, List, [], ◌∷◌, ◌++◌, map, length, get_or, take, set, Some, Ok, Err, Result, sym, refl, ap, ◌∙◌, subst, ap₂, subst₂}
 use Rattle.std.proofs.lemmas.Bool.{true≢false}
 use Rattle.std.proofs.lemmas.List.{take_more_set, map-set, set-get_or, get_or-map}
 use Rattle.rdf.specs.declared.refusal.Refusal.{Refusal}
@@ -10,12 +10,10 @@ use Rattle.graph.specs.Makes.{Make, Ruled}
 use Rattle.graph.specs.Histories.{change_called, make_of, recorded}
 use Rattle.history.specs.declared.step.Call.{Call}
 use Rattle.history.specs.declared.step.Call.TheVariants.{Next, Add, Remove, Free, Ask}
-use Rattle.history.specs.declared.step.Answer.{Answer}
 use Rattle.history.specs.declared.step.Step.{Step}
-use Rattle.history.specs.Courses.{Course, then_called, since, was_accepted, event_of, history_of, account_of}
-use Rattle.history.specs.Replies.{changed_by, number_of, alters_set, is_change, reading_then, rows_then, Replied, Leaves, reading_since, rows_since}
+use Rattle.history.specs.Courses.{Course, then_called, since, Reply, was_accepted, event_of, history_of, account_of}
+use Rattle.history.specs.Replies.{changed_by, alters_set, is_change, reading_then, rows_then, Replied, Leaves, reading_since, rows_since}
 use Rattle.history.specs.Runs.{Changes, Moves, Carries, Runs}
-use Rattle.history.proofs.ReplyLaws.{due_numbered}
 
 -- an answer beside a call leaves the calls as they are
 pub same_calls : (log : List Step) (n : ℕ) (x d : Step) → n < length log → x.call ≡ (get_or log n d).call → map (λ y. y.call) (set log n x) ≡ map (λ y. y.call) log
@@ -31,32 +29,19 @@ make_since c [] = refl
 make_since c (x ∷ xs) = make_since (then_called c x) xs
 
 -- a change is told as accepted if it was
-accepted_told : (r : Result (Unit {0}) Refusal) (a : Answer) → a ≡ changed_by r → was_accepted a ≡ accepted r
+accepted_told : (r : Result (Unit {0}) Refusal) (a : Reply) → a ≡ Some (changed_by r) → was_accepted a ≡ accepted r
 accepted_told (Ok u) a e = ap was_accepted e
 accepted_told (Err f) a e = ap was_accepted e
 
 module _ {G : Type 0} (make : G → Make) (triples : G → List Triple) (room : G → ℕ) (full : G → Change → Bool) (frame unaltered : G → G → Type 0) (i j : ℕ) where
-  abbrev ChangeOf : Change → G → Answer → G → Type 0
+  abbrev ChangeOf : Change → G → Reply → G → Type 0
   ChangeOf c g a k = Changes make triples room full frame unaltered c g a k
 
-  abbrev Carry : Call → G → List Triple → List Row → Answer → G → List Triple → List Row → Type 0
+  abbrev Carry : Call → G → List Triple → List Row → Reply → G → List Triple → List Row → Type 0
   Carry c g m w a k n v = Carries make triples room full frame unaltered i j c g m w a k n v
 
   abbrev Run : G → List Triple → List Row → List Step → G → List Triple → List Row → Type 0
   Run g m w xs k n v = Runs make triples room full frame unaltered i j g m w xs k n v
-
-  -- a change that is carried out
-  pub added : (c : Call) (t : Triple) → c ≡ Add t → (g : G) (m : List Triple) (w : List Row) (a : Answer) (k : G) → ChangeOf (adding t) g a k → Carry c g m w a k m w
-  added c t e g m w a k x =
-      let told = x.told ∙ ap changed_by x.applied.answer in
-      subst (λ y. Carry y g m w a k m w) (sym e)
-      (record { answered = told; numbered = ap number_of told ∙ due_numbered i j (triples g) (room g) (full g) (Add t); moved = x; read = refl; worked = refl })
-
-  pub removed : (c : Call) (t : Triple) → c ≡ Remove t → (g : G) (m : List Triple) (w : List Row) (a : Answer) (k : G) → ChangeOf (removing t) g a k → Carry c g m w a k m w
-  removed c t e g m w a k x =
-      let told = x.told ∙ ap changed_by x.applied.answer in
-      subst (λ y. Carry y g m w a k m w) (sym e)
-      (record { answered = told; numbered = ap number_of told ∙ due_numbered i j (triples g) (room g) (full g) (Remove t); moved = x; read = refl; worked = refl })
 
   runs_push : (g h k : G) (m l n : List Triple) (w u v : List Row) (xs : List Step) (x : Step) → Run g m w xs h l u → Carry x.call h l u x.answer k n v → Run g m w (xs ++ x ∷ []) k n v
   runs_push g h k m l n w u v [] x r c =
@@ -73,11 +58,11 @@ module _ {G : Type 0} (make : G → Make) (triples : G → List Triple) (room : 
       let sized = subst₂ (λ s t. Carries make triples room full frame unaltered s t x.call h l u x.answer k n v) e f c in
       subst (λ xs. Run g m w xs k n v) (sym (take_more_set log p x inside)) (runs_push g h k m l n w u v (take p log) x r sized)
 
-  change_set : (c : Change) (g : G) (a : Answer) (k : G) → ChangeOf c g a k → triples k ≡ recorded (change_called c (was_accepted a)) (triples g)
+  change_set : (c : Change) (g : G) (a : Reply) (k : G) → ChangeOf c g a k → triples k ≡ recorded (change_called c (was_accepted a)) (triples g)
   change_set c g a k x = x.applied.set ∙ ap (λ b. cond b (changed c (triples g)) (triples g)) (sym (accepted_told x.result a x.told))
 
   -- one call more is one event more in the account
-  moved_set : (c : Call) (g : G) (a : Answer) (k : G) → Moves make triples room full frame unaltered c g a k → triples k ≡ recorded (event_of c a) (triples g)
+  moved_set : (c : Call) (g : G) (a : Reply) (k : G) → Moves make triples room full frame unaltered c g a k → triples k ≡ recorded (event_of c a) (triples g)
   moved_set (Next t) g a k x = ap triples x
   moved_set (Add t) g a k x = change_set (adding t) g a k x
   moved_set (Remove t) g a k x = change_set (removing t) g a k x
@@ -90,7 +75,7 @@ module _ {G : Type 0} (make : G → Make) (triples : G → List Triple) (room : 
       runs_account r.0 k r.1 n r.2 v xs r.4 (then_called c x)
       (ap (recorded (event_of x.call x.answer)) e ∙ sym (moved_set x.call g x.answer r.0 r.3.moved))
 
-  moved_make : (c : Call) (g : G) (a : Answer) (k : G) → Moves make triples room full frame unaltered c g a k → make k ≡ make g
+  moved_make : (c : Call) (g : G) (a : Reply) (k : G) → Moves make triples room full frame unaltered c g a k → make k ≡ make g
   moved_make (Next t) g a k x = ap make x
   moved_make (Add t) g a k x = x.same_make
   moved_make (Remove t) g a k x = x.same_make
@@ -101,7 +86,7 @@ module _ {G : Type 0} (make : G → Make) (triples : G → List Triple) (room : 
   runs_make g k m n w v [] r = ap make r.0
   runs_make g k m n w v (x ∷ xs) r = runs_make r.0 k r.1 n r.2 v xs r.4 ∙ moved_make x.call g x.answer r.0 r.3.moved
 
-  moved_frame : ((g : G) → frame g g) → (c : Call) (g : G) (a : Answer) (k : G) → Moves make triples room full frame unaltered c g a k → frame g k
+  moved_frame : ((g : G) → frame g g) → (c : Call) (g : G) (a : Reply) (k : G) → Moves make triples room full frame unaltered c g a k → frame g k
   moved_frame still (Next t) g a k x = subst (frame g) (sym x) (still g)
   moved_frame still (Add t) g a k x = x.framed
   moved_frame still (Remove t) g a k x = x.framed
@@ -114,17 +99,17 @@ module _ {G : Type 0} (make : G → Make) (triples : G → List Triple) (room : 
   runs_frame still onward g k m n w v (x ∷ xs) r =
       onward g r.0 k (moved_frame still x.call g x.answer r.0 r.3.moved) (runs_frame still onward r.0 k r.1 n r.2 v xs r.4)
 
-  change_places : (c : Change) (g : G) (a : Answer) (k : G) → ChangeOf c g a k → (was_accepted a && has_effect c (triples g)) ≡ false → room k ≡ room g
+  change_places : (c : Change) (g : G) (a : Reply) (k : G) → ChangeOf c g a k → (was_accepted a && has_effect c (triples g)) ≡ false → room k ≡ room g
   change_places c g a k x e = x.applied.places (ap (λ b. b && has_effect c (triples g)) (sym (accepted_told x.result a x.told)) ∙ e)
 
-  moved_places : (c : Call) (g : G) (a : Answer) (k : G) → Moves make triples room full frame unaltered c g a k → alters_set c a (triples g) ≡ false → room k ≡ room g
+  moved_places : (c : Call) (g : G) (a : Reply) (k : G) → Moves make triples room full frame unaltered c g a k → alters_set c a (triples g) ≡ false → room k ≡ room g
   moved_places (Next t) g a k x e = ap room x
   moved_places (Add t) g a k x e = change_places (adding t) g a k x e
   moved_places (Remove t) g a k x e = change_places (removing t) g a k x e
   moved_places Free g a k x e = ap room x
   moved_places (Ask q) g a k x e = ap room x
 
-  moved_conditions : (c : Call) (g : G) (a : Answer) (k : G) → Moves make triples room full frame unaltered c g a k → is_change c ≡ false → full k ≡ full g
+  moved_conditions : (c : Call) (g : G) (a : Reply) (k : G) → Moves make triples room full frame unaltered c g a k → is_change c ≡ false → full k ≡ full g
   moved_conditions (Next t) g a k x e = ap full x
   moved_conditions (Add t) g a k x e = absurd (true≢false e)
   moved_conditions (Remove t) g a k x e = absurd (true≢false e)

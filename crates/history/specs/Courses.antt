@@ -1,7 +1,8 @@
 -- The course of a graph: how it and its parts were opened, and the calls on them since with their answers. Its history, as an account
 -- takes it, tells of each call only the change and whether it was accepted. Assumes nothing.
 -- In docs/RULES.md: Course; Account.
-use Rattle.std.specs.Prelude.{ℕ, Bool, true, false, List, [], ◌∷◌}
+use Rattle.std.specs.Prelude.{ℕ, Bool, true, false, List, [], ◌∷◌, Some, None, Ok, Err, Option, Result}
+use Rattle.rdf.specs.declared.refusal.Refusal.{Refusal}
 use Rattle.rdf.specs.declared.triple.Triple.{Triple}
 use Rattle.graph.specs.Changes.{Change, adding, removing}
 use Rattle.graph.specs.Makes.{Make}
@@ -10,7 +11,7 @@ use Rattle.graph.specs.Histories as history
 use Rattle.history.specs.declared.step.Call.{Call}
 use Rattle.history.specs.declared.step.Call.TheVariants.{Next, Add, Remove, Free, Ask}
 use Rattle.history.specs.declared.step.Answer.{Answer}
-use Rattle.history.specs.declared.step.Answer.TheVariants.{Open, Least, Accepted, Refused, Places, Solved}
+use Rattle.history.specs.declared.step.Answer.TheVariants.{Least, Accepted, Places, Solved}
 use Rattle.history.specs.declared.step.Step.{Step}
 
 pub data Course : Type 0 where
@@ -34,16 +35,20 @@ abbrev pub since : Course → List Step → Course
 since c [] = c
 since c (x ∷ xs) = since (then_called c x) xs
 
-abbrev pub was_accepted : Answer → Bool
-was_accepted Open = false
-was_accepted (Least t) = false
-was_accepted Accepted = true
-was_accepted (Refused f) = false
-was_accepted (Places n) = false
-was_accepted (Solved n k) = false
+-- what stands beside a call: none before it is carried out, then an answer or a refusal
+abbrev pub Reply : Type 0
+Reply = Option (Result Answer Refusal)
+
+abbrev pub was_accepted : Reply → Bool
+was_accepted None = false
+was_accepted (Some (Err f)) = false
+was_accepted (Some (Ok (Least t))) = false
+was_accepted (Some (Ok Accepted)) = true
+was_accepted (Some (Ok (Places n))) = false
+was_accepted (Some (Ok (Solved n))) = false
 
 -- what an account is told of a call
-abbrev pub event_of : Call → Answer → Event
+abbrev pub event_of : Call → Reply → Event
 event_of (Next t) a = asked
 event_of (Add t) a = change_called (adding t) (was_accepted a)
 event_of (Remove t) a = change_called (removing t) (was_accepted a)

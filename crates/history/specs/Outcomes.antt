@@ -1,16 +1,17 @@
 -- What a log of calls and a question come to: the answers, and what they leave in the memories that they were lent. Assumes nothing.
 -- In docs/RULES.md: Same account, same answers.
-use Rattle.std.specs.Prelude.{◌≡◌, ℕ, List, map, length, Result}
+use Rattle.std.specs.Prelude.{◌≡◌, List, map, length, Some, Result}
 use Rattle.rdf.specs.declared.refusal.Refusal.{Refusal}
 use Rattle.rdf.specs.declared.row.Row.{Row}
 use Rattle.rdf.specs.declared.triple.Triple.{Triple}
 use Rattle.query.specs.declared.table.Entry.{Entry}
 use Rattle.semantics.specs.declared.strategy.Strategy.{Strategy}
+use Rattle.semantics.specs.declared.worked.Worked.{Worked}
 use Rattle.semantics.specs.Questions.{answer, refusal_number}
 use Rattle.engine.specs.Solving.{Asked}
 use Rattle.history.specs.declared.step.Step.{Step}
 use Rattle.history.specs.Courses.{Course}
-use Rattle.history.specs.Replies.{Truthful, number_of, reading_since, rows_since, solved_by}
+use Rattle.history.specs.Replies.{Truthful, number_of, reading_since, rows_since}
 
 -- a log that was carried out in the course c: it has the same calls, each answered by the rules, and the memories m and w, which it was
 -- lent, then hold m_then and w_then
@@ -21,6 +22,6 @@ pub record Logged (c : Course) (log log_then : List Step) (m m_then : List Tripl
   pub rows : w_then ≡ rows_since (length m) (length w) c w
 
 -- a question: over the set g, with the memories m and w before it and m_then and w_then after it, it returned r
-pub record Outcome (strategy : Strategy) (g : List Triple) (entries : List Entry) (values : List Row) (start : Row) (m m_then : List Triple) (w w_then : List Row) (r : Result (ℕ × ℕ) Refusal) : Type 0 where
+pub record Outcome (strategy : Strategy) (g : List Triple) (entries : List Entry) (values : List Row) (start : Row) (m m_then : List Triple) (w w_then : List Row) (r : Result Worked Refusal) : Type 0 where
   pub asked : Asked strategy g entries values start m m_then w w_then r
-  pub numbered : number_of (solved_by r) ≡ refusal_number (answer strategy g entries values start (length m) (length w))
+  pub numbered : number_of (Some r) ≡ refusal_number (answer strategy g entries values start (length m) (length w))

@@ -1,7 +1,7 @@
 -- What each call of a course answers by the rules: over the set before it, the graph's make, and the places of the memory that is lent to
 -- the log; and what that memory holds afterwards. Assumes nothing.
 -- In docs/RULES.md: Log.
-use Rattle.std.specs.Prelude.{◌≡◌, ℕ, min, Bool, true, false, cond, ◌&&◌, List, ◌++◌, take, drop, Ok, Err, Result}
+use Rattle.std.specs.Prelude.{◌≡◌, ℕ, min, Bool, true, false, cond, ◌&&◌, List, ◌++◌, take, drop, Some, None, Ok, Err, Option, Result}
 use Rattle.order.specs.Sets.{above}
 use Rattle.rdf.specs.declared.refusal.Refusal.{Refusal}
 use Rattle.rdf.specs.declared.row.Row.{Row}
@@ -11,41 +11,39 @@ use Rattle.rdf.specs.Triples.{compare_triples, is_triple}
 use Rattle.graph.specs.Changes.{Change, adding, removing, triple_of, has_effect, verdict}
 use Rattle.graph.specs.Makes.{Make, Ruled}
 use Rattle.graph.specs.Histories.{recorded, make_of}
+use Rattle.semantics.specs.declared.worked.Worked.{Worked}
 use Rattle.semantics.specs.Questions.{answer, reply, refusal_number, reading_after, rows_after}
 use Rattle.semantics.specs.Questions as question
 use Rattle.history.specs.declared.step.Question.{Question}
 use Rattle.history.specs.declared.step.Call.{Call}
 use Rattle.history.specs.declared.step.Call.TheVariants.{Next, Add, Remove, Free, Ask}
 use Rattle.history.specs.declared.step.Answer.{Answer}
-use Rattle.history.specs.declared.step.Answer.TheVariants.{Open, Least, Accepted, Refused, Places, Solved}
+use Rattle.history.specs.declared.step.Answer.TheVariants.{Least, Accepted, Places, Solved}
 use Rattle.history.specs.declared.step.Step.{Step}
-use Rattle.history.specs.Courses.{Course, opened, listed, emptied, laid_over, sealed, joined, then_called, was_accepted, event_of, history_of, account_of}
+use Rattle.history.specs.Courses.{Course, opened, listed, emptied, laid_over, sealed, joined, then_called, Reply, was_accepted, event_of, history_of, account_of}
 
 -- the answer to a change
-abbrev pub changed_by : Result (Unit {0}) Refusal → Answer
-changed_by (Ok _) = Accepted
-changed_by (Err f) = Refused f
+abbrev pub changed_by : Result (Unit {0}) Refusal → Result Answer Refusal
+changed_by (Ok _) = Ok Accepted
+changed_by (Err f) = Err f
 
 -- the answer to a question
-abbrev pub solved_by : Result (ℕ × ℕ) Refusal → Answer
-solved_by (Ok n) = Solved n.0 n.1
-solved_by (Err f) = Refused f
+abbrev pub solved_by : Result Worked Refusal → Result Answer Refusal
+solved_by (Ok n) = Ok (Solved n)
+solved_by (Err f) = Err f
 
 -- the number by which a call was refused, 0 where it was not
-abbrev pub number_of : Answer → ℕ
-number_of Open = 0
-number_of (Least t) = 0
-number_of Accepted = 0
-number_of (Refused f) = number f
-number_of (Places n) = 0
-number_of (Solved n k) = 0
+abbrev pub number_of : {A : Type 0} → Option (Result A Refusal) → ℕ
+number_of None = 0
+number_of (Some (Ok a)) = 0
+number_of (Some (Err f)) = number f
 
 -- 12 exactly if the numbers are no triple, 13 exactly if a change with effect finds no place
 abbrev pub change_number : List Triple → (Change → Bool) → Change → ℕ
 change_number s full c = cond (is_triple (triple_of c)) (cond (has_effect c s && full c) 13 0) 12
 
 -- whether the call is a change that was accepted and had an effect on the set s
-abbrev pub alters_set : Call → Answer → List Triple → Bool
+abbrev pub alters_set : Call → Reply → List Triple → Bool
 alters_set (Next t) a s = false
 alters_set (Add t) a s = was_accepted a && has_effect (adding t) s
 alters_set (Remove t) a s = was_accepted a && has_effect (removing t) s
@@ -70,11 +68,11 @@ module _ (reading_places row_places : ℕ) where
   answer_to s q = answer q.strategy s q.query.entries.now q.query.values.now q.start (min q.reading reading_places) (min q.rows row_places)
 
   -- the answer to a call on a graph that means the set s and has so many free places; `full` tells which changes find no place
-  abbrev pub due : List Triple → ℕ → (Change → Bool) → Call → Answer
-  due s room full (Next t) = Least (above compare_triples t s)
+  abbrev pub due : List Triple → ℕ → (Change → Bool) → Call → Result Answer Refusal
+  due s room full (Next t) = Ok (Least (above compare_triples t s))
   due s room full (Add t) = changed_by (verdict s (full (adding t)) (adding t))
   due s room full (Remove t) = changed_by (verdict s (full (removing t)) (removing t))
-  due s room full Free = Places room
+  due s room full Free = Ok (Places room)
   due s room full (Ask q) = solved_by (reply (answer_to s q))
 
   -- the number by which the call is refused, 0 where it is not
@@ -103,7 +101,7 @@ module _ (reading_places row_places : ℕ) where
 
   -- the step x, on a graph of this make that means the set s, with so many free places and `full`, leads to `left` places and `full_then`
   pub record Replied (k : Make) (s : List Triple) (room : ℕ) (full : Change → Bool) (x : Step) (left : ℕ) (full_then : Change → Bool) : Type 0 where
-    pub answered : x.answer ≡ due s room full x.call
+    pub answered : x.answer ≡ Some (due s room full x.call)
     pub numbered : number_of x.answer ≡ number_due s full x.call
     pub ruled : Ruled k (recorded (event_of x.call x.answer) s) left full_then
     -- a call that is refused or has no effect keeps the free places

@@ -6,14 +6,14 @@ ghost use Rattle.history.specs.Courses.{account_of};
 ghost use Rattle.history.specs.Outcomes.{Logged, Outcome};
 
 use crate::opening::Opening;
-use crate::run::put;
 use crate::step::Step;
+use engine::question::{bottom_up, top_down};
 use graph::graph::Graph;
 use query::table::Query;
 use rdf::refusal::Refusal;
 use rdf::row::Row;
 use rdf::triple::Triple;
-use semantics::strategy::Strategy;
+use semantics::worked::Worked;
 
 // Puts a question top down to the left graph and bottom up to the right one, each in memory of its own.
 // Where both graphs mean one set and the memories have the same sizes, the promise of the two ways of working is kept.
@@ -26,30 +26,13 @@ pub fn agree<L: Graph, R: Graph>(
     right_rows: &mut [Row],
     query: &Query,
     start: &Row,
-) -> (
-    Result<(usize, usize), Refusal>,
-    Result<(usize, usize), Refusal>,
-)
+) -> (Result<Worked, Refusal>, Result<Worked, Refusal>)
     ensures left { Outcome TopDown (L.Graph.triples left.now) query.now.entries.now query.now.values.now start.now left_reading.old left_reading.new left_rows.old left_rows.new result.0 }
     ensures right { Outcome BottomUp (R.Graph.triples right.now) query.now.entries.now query.now.values.now start.now right_reading.old right_reading.new right_rows.old right_rows.new result.1 }
     ensures promise { L.Graph.triples left.now ≡ R.Graph.triples right.now → length left_reading.old ≡ length right_reading.old → length left_rows.old ≡ length right_rows.old → Promise (L.Graph.triples left.now) query.now.entries.now query.now.values.now start.now (length left_reading.old) (length left_rows.old) result.0 result.1 left_rows.new right_rows.new }
 {
-    let down = put(
-        Strategy::TopDown,
-        left,
-        query,
-        start,
-        left_reading,
-        left_rows,
-    );
-    let up = put(
-        Strategy::BottomUp,
-        right,
-        query,
-        start,
-        right_reading,
-        right_rows,
-    );
+    let down = top_down(left, query, start, left_reading, left_rows);
+    let up = bottom_up(right, query, start, right_reading, right_rows);
     (down, up)
 }
 
@@ -71,10 +54,7 @@ pub fn compare<A: Opening, B: Opening>(
     right_rows: &mut [Row],
     query: &Query,
     start: &Row,
-) -> (
-    Result<(usize, usize), Refusal>,
-    Result<(usize, usize), Refusal>,
-)
+) -> (Result<Worked, Refusal>, Result<Worked, Refusal>)
     ensures logs { (Logged (A.Opening.course left left_log.new) left_log.old left_log.new left_log_reading.old left_log_reading.new left_log_rows.old left_log_rows.new) × (Logged (B.Opening.course right right_log.new) right_log.old right_log.new right_log_reading.old right_log_reading.new right_log_rows.old right_log_rows.new) }
     ensures idle { (A.Opening.idle left left_log.old left_log.new) × (B.Opening.idle right right_log.old right_log.new) }
     ensures runs { (((g : A.Made) × A.Opening.runs left (length left_log_reading.old) (length left_log_rows.old) left_log.new g × (A.Made.triples g ≡ account_of (A.Opening.course left left_log.new)))) × (((g : B.Made) × B.Opening.runs right (length right_log_reading.old) (length right_log_rows.old) right_log.new g × (B.Made.triples g ≡ account_of (B.Opening.course right right_log.new)))) }

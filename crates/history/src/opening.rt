@@ -7,7 +7,7 @@ ghost use Rattle.history.specs.Courses.{Course, account_of, emptied, history_of,
 ghost use Rattle.history.specs.Replies.{Leaves, reading_since, rows_since};
 ghost use Rattle.history.specs.Runs.{Ran};
 
-use crate::run::{run, within};
+use crate::run::run;
 use crate::step::Step;
 use graph::editable_graph::EditableGraph;
 use graph::graph::Graph;
@@ -168,7 +168,7 @@ impl<A: Opening, B: Opening> Opening for Joined<A, B> {
         reading: &mut [Triple],
         rows: &mut [Row],
     ) -> UnionGraph<A::Made, B::Made> {
-        let split = within(self.split, log.len());
+        let split = self.split.min(log.len());
         let left = self.left.open(&mut log[..split], reading, rows);
         let right = self.right.open(&mut log[split..], reading, rows);
         UnionGraph::new(left, right)
@@ -195,7 +195,7 @@ where
     ghost runs = { λ o i j l g. (k : O.Made) × O.Opening.runs o.opening i j (take o.split l) k × Ran O.Made.make O.Made.triples O.Made.room O.Made.full O.Made.frame O.Made.unaltered i j k (drop o.split l) g };
 
     fn open(self, log: &mut [Step], reading: &mut [Triple], rows: &mut [Row]) -> O::Made {
-        let split = within(self.split, log.len());
+        let split = self.split.min(log.len());
         let mut graph = self.opening.open(&mut log[..split], reading, rows);
         run(&mut graph, &mut log[split..], reading, rows);
         graph

@@ -18,12 +18,10 @@ use query::table::Query;
 use rdf::refusal::Refusal;
 use rdf::row::Row;
 use rdf::triple::Triple;
+use semantics::worked::Worked;
 
 // What a question answers top down, and bottom up.
-type Answers = (
-    Result<(usize, usize), Refusal>,
-    Result<(usize, usize), Refusal>,
-);
+type Answers = (Result<Worked, Refusal>, Result<Worked, Refusal>);
 
 // A list beneath an overlay that takes calls is joined with another list, beneath an overlay that takes calls in its turn. It is compared
 // with a third list beneath an overlay that takes calls.

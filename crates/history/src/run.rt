@@ -1,82 +1,41 @@
 // Carrying out whole logs of calls.
-ghost use Rattle.std.specs.Prelude.{◌≡◌, min, List, map, length};
-ghost use Rattle.engine.specs.Solving.{Asked};
+ghost use Rattle.std.specs.Prelude.{◌≡◌, List, map, length};
 ghost use Rattle.graph.specs.Histories.{make_of};
 ghost use Rattle.history.specs.Courses.{Course, account_of, history_of, since};
-ghost use Rattle.history.specs.Replies.{Leaves, answer_to, changed_by, first_places, reading_since, rows_since, solved_by};
+ghost use Rattle.history.specs.Replies.{Leaves, answer_to, first_places, reading_since, rows_since};
 ghost use Rattle.history.specs.Runs.{Carries, Runs};
 ghost use Rattle.semantics.specs.Questions.{reading_after, reply, rows_after};
 
 use crate::step::{Answer, Call, Question, Step};
-use engine::question::{bottom_up, top_down};
+use engine::question;
 use graph::editable_graph::EditableGraph;
 use graph::graph::Graph;
-use query::table::Query;
 use rdf::refusal::Refusal;
 use rdf::row::Row;
 use rdf::triple::Triple;
-use semantics::strategy::Strategy;
-
-// The number, or the size where that is less.
-pub(crate) fn within(number: usize, size: usize) -> usize
-    ensures { result ≡ min number size }
-{
-    if number < size { number } else { size }
-}
-
-// The answer to a change.
-fn changed(res: Result<(), Refusal>) -> Answer
-    ensures { result ≡ changed_by res }
-{
-    match res {
-        Ok(()) => Answer::Accepted,
-        Err(refusal) => Answer::Refused(refusal),
-    }
-}
-
-// The answer to a question.
-fn solved(res: Result<(usize, usize), Refusal>) -> Answer
-    ensures { result ≡ solved_by res }
-{
-    match res {
-        Ok((solutions, largest)) => Answer::Solved(solutions, largest),
-        Err(refusal) => Answer::Refused(refusal),
-    }
-}
-
-// Puts a question by a strategy.
-pub(crate) fn put<G: Graph>(
-    strategy: Strategy,
-    graph: &G,
-    query: &Query,
-    start: &Row,
-    reading: &mut [Triple],
-    rows: &mut [Row],
-) -> Result<(usize, usize), Refusal>
-    ensures { Asked strategy (G.triples graph.now) query.now.entries.now query.now.values.now start.now reading.old reading.new rows.old rows.new result }
-{
-    match strategy {
-        Strategy::BottomUp => bottom_up(graph, query, start, reading, rows),
-        Strategy::TopDown => top_down(graph, query, start, reading, rows),
-    }
-}
+use semantics::worked::Worked;
 
 // Puts a question in the first places of the lent memory.
-fn ask<G: Graph>(graph: &G, question: &Question, reading: &mut [Triple], rows: &mut [Row]) -> Answer
-    ensures answer { result ≡ solved_by (reply (answer_to (length reading.old) (length rows.old) (G.triples graph.now) question.now)) }
+fn ask<G: Graph>(
+    graph: &G,
+    question: &Question,
+    reading: &mut [Triple],
+    rows: &mut [Row],
+) -> Result<Worked, Refusal>
+    ensures answer { result ≡ reply (answer_to (length reading.old) (length rows.old) (G.triples graph.now) question.now) }
     ensures reading { reading.new ≡ first_places question.now.reading (reading_after (answer_to (length reading.old) (length rows.old) (G.triples graph.now) question.now) (G.triples graph.now)) reading.old }
     ensures rows { rows.new ≡ first_places question.now.rows (rows_after (answer_to (length reading.old) (length rows.old) (G.triples graph.now) question.now)) rows.old }
 {
-    let places = within(question.reading, reading.len());
-    let share = within(question.rows, rows.len());
-    solved(put(
+    let places = question.reading.min(reading.len());
+    let share = question.rows.min(rows.len());
+    question::ask(
         question.strategy,
         graph,
         &question.query,
         &question.start,
         &mut reading[..places],
         &mut rows[..share],
-    ))
+    )
 }
 
 // Carries out one call.
@@ -85,15 +44,15 @@ fn carry_out<G: EditableGraph>(
     call: &Call,
     reading: &mut [Triple],
     rows: &mut [Row],
-) -> Answer
-    ensures { Carries G.Graph.make G.Graph.triples G.Graph.room G.Graph.full G.frame G.unaltered (length reading.old) (length rows.old) call.now graph.old reading.old rows.old result graph.new reading.new rows.new }
+) -> Result<Answer, Refusal>
+    ensures { Carries G.Graph.make G.Graph.triples G.Graph.room G.Graph.full G.frame G.unaltered (length reading.old) (length rows.old) call.now graph.old reading.old rows.old (Some result) graph.new reading.new rows.new }
 {
     match call {
-        Call::Next(after) => Answer::Least(graph.next(*after)),
-        Call::Add(triple) => changed(graph.add(*triple)),
-        Call::Remove(triple) => changed(graph.remove(*triple)),
-        Call::Free => Answer::Places(graph.free()),
-        Call::Ask(question) => ask(&*graph, question, reading, rows),
+        Call::Next(after) => Ok(Answer::Least(graph.next(*after))),
+        Call::Add(triple) => graph.add(*triple).map(|()| Answer::Accepted),
+        Call::Remove(triple) => graph.remove(*triple).map(|()| Answer::Accepted),
+        Call::Free => Ok(Answer::Places(graph.free())),
+        Call::Ask(question) => ask(&*graph, question, reading, rows).map(Answer::Solved),
     }
 }
 
@@ -115,6 +74,6 @@ pub fn run<G: EditableGraph>(
     ensures rows { (c : Course) (before : List Row) → account_of c ≡ G.Graph.triples graph.old → rows_since (length reading.old) (length rows.old) c before ≡ rows.old → rows_since (length reading.old) (length rows.old) (since c log.new) before ≡ rows.new }
 {
     for step in log.iter_mut() {
-        step.answer = carry_out(graph, &step.call, reading, rows);
+        step.answer = Some(carry_out(graph, &step.call, reading, rows));
     }
 }

@@ -4,6 +4,7 @@ use rdf::refusal::Refusal;
 use rdf::row::Row;
 use rdf::triple::Triple;
 use semantics::strategy::Strategy;
+use semantics::worked::Worked;
 
 // A question that is put in the course of a run. It works in the first places of the memory that is lent to the run: in as many as it
 // asks for, and in all where there are fewer.
@@ -33,26 +34,22 @@ pub enum Call<'a> {
     Ask(Question<'a>),
 }
 
-// What a call answered.
-#[derive(Clone, Copy)]
+// What a call that is not refused answered.
+#[derive(Clone, Copy, PartialEq, Eq)]
 pub enum Answer {
-    // It was not carried out.
-    Open,
     // The least triple above.
     Least(Option<Triple>),
     // The change was accepted.
     Accepted,
-    // The change or the question was refused.
-    Refused(Refusal),
     // So many places are free.
     Places(usize),
-    // The question has so many solutions, and its largest working set so many rows.
-    Solved(usize, usize),
+    // The question was worked out.
+    Solved(Worked),
 }
 
-// One entry of a log: a call, and the place for its answer.
+// One entry of a log: a call, and the place for its answer, which is none until the call is carried out.
 #[derive(Clone, Copy)]
 pub struct Step<'a> {
     pub call: Call<'a>,
-    pub answer: Answer,
+    pub answer: Option<Result<Answer, Refusal>>,
 }

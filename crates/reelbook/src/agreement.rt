@@ -18,6 +18,7 @@ use query::table::{Entry, Query};
 use rdf::refusal::Refusal;
 use rdf::row::{EMPTY_ROW, Row};
 use rdf::triple::{NO_TRIPLE, Triple};
+use semantics::worked::Worked;
 use std::io;
 
 // How many triples the stored graph beneath the overlay has room for.
@@ -91,10 +92,7 @@ fn same_rows(left: &[Row], right: &[Row]) -> bool {
 }
 
 // What a question answers top down, and bottom up.
-type Answers = (
-    Result<(usize, usize), Refusal>,
-    Result<(usize, usize), Refusal>,
-);
+type Answers = (Result<Worked, Refusal>, Result<Worked, Refusal>);
 
 // Opens both with the calls of their logs, which put no question, and puts one to both, from the row that binds nothing. Where both come to
 // one set and the memories have the same sizes, the promise of the two ways of working is kept.

@@ -1,15 +1,12 @@
 // Calls on graphs, and lists, for the comparison of graphs of different makes.
 use crate::triple;
 use crate::wording::{GRAMS_PER_SQUARE_METRE, POUNDS_PER_REAM, UNIT, VALUE, WEIGHT};
-use history::step::{Answer, Call, Step};
+use history::step::{Call, Step};
 use rdf::term::{Term, UNBOUND};
 use rdf::triple::Triple;
 
 fn step(call: Call<'static>) -> Step<'static> {
-    Step {
-        call,
-        answer: Answer::Open,
-    }
+    Step { call, answer: None }
 }
 
 fn add(subject: Term, predicate: Term, object: Term) -> Step<'static> {

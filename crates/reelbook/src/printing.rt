@@ -5,6 +5,7 @@ use history::step::{Answer, Call, Step};
 use rdf::refusal::Refusal;
 use rdf::row::Row;
 use rdf::triple::Triple;
+use semantics::worked::Worked;
 use std::io;
 
 // Prints a set that was read into memory.
@@ -32,11 +33,11 @@ pub(crate) fn print_set(
 // Prints the solutions that a question left in row memory, and their number and that of the rows of the largest working set.
 pub(crate) fn print_answer(
     rt: &impl Print,
-    answer: Result<(usize, usize), Refusal>,
+    answer: Result<Worked, Refusal>,
     rows: &[Row],
 ) -> io::Result<()> {
     match answer {
-        Ok((count, largest)) => {
+        Ok(Worked { count, largest }) => {
             println!(rt; "  {count} found, largest working set {largest}:")?;
             print_solutions(rt, rows)
         }
@@ -76,22 +77,22 @@ fn print_call(rt: &impl Print, call: &Call) -> io::Result<()> {
     }
 }
 
-fn print_reply(rt: &impl Print, answer: &Answer) -> io::Result<()> {
-    match *answer {
-        Answer::Open => println!(rt; "not carried out"),
-        Answer::Least(Some(triple)) => {
+fn print_reply(rt: &impl Print, answer: Option<Result<Answer, Refusal>>) -> io::Result<()> {
+    match answer {
+        None => println!(rt; "not carried out"),
+        Some(Ok(Answer::Least(Some(triple)))) => {
             let words = Words(triple);
             println!(rt; "({words})")
         }
-        Answer::Least(None) => println!(rt; "nothing"),
-        Answer::Accepted => println!(rt; "accepted"),
-        Answer::Refused(refusal) => {
+        Some(Ok(Answer::Least(None))) => println!(rt; "nothing"),
+        Some(Ok(Answer::Accepted)) => println!(rt; "accepted"),
+        Some(Ok(Answer::Places(free))) => println!(rt; "{free}"),
+        Some(Ok(Answer::Solved(Worked { count, largest }))) => {
+            println!(rt; "{count} found, largest working set {largest}")
+        }
+        Some(Err(refusal)) => {
             let number = refusal.number();
             println!(rt; "sent back, number {number}")
-        }
-        Answer::Places(free) => println!(rt; "{free}"),
-        Answer::Solved(count, largest) => {
-            println!(rt; "{count} found, largest working set {largest}")
         }
     }
 }
@@ -100,7 +101,7 @@ fn print_reply(rt: &impl Print, answer: &Answer) -> io::Result<()> {
 pub(crate) fn print_log(rt: &impl Print, log: &[Step]) -> io::Result<()> {
     for step in log {
         print_call(rt, &step.call)?;
-        print_reply(rt, &step.answer)?;
+        print_reply(rt, step.answer)?;
     }
     Ok(())
 }

@@ -15,6 +15,7 @@ use rdf::refusal::Refusal;
 use rdf::row::{EMPTY_ROW, Row};
 use rdf::triple::Triple;
 use rdf::variable::Variable;
+use semantics::worked::Worked;
 
 // The reel that lacks a reading, and the reading that it has.
 pub const REEL: Variable = Variable(0);
@@ -66,7 +67,7 @@ fn ask<'a, G: Graph>(
     values: &'a [Row],
     reading: &mut [Triple],
     rows: &mut [Row],
-) -> Result<(usize, usize), Refusal>
+) -> Result<Worked, Refusal>
     ensures { Asked BottomUp (G.triples graph.now) entries.now values.now empty_row reading.old reading.new rows.old rows.new result }
 {
     let query = Query { entries, values };
@@ -78,7 +79,7 @@ pub fn ask_unweighed<G: Graph>(
     graph: &G,
     reading: &mut [Triple],
     rows: &mut [Row],
-) -> Result<(usize, usize), Refusal>
+) -> Result<Worked, Refusal>
     ensures { Asked BottomUp (G.triples graph.now) unweighed [] empty_row reading.old reading.new rows.old rows.new result }
 {
     ask(graph, &UNWEIGHED, &[], reading, rows)
@@ -89,7 +90,7 @@ pub fn ask_not_at_reel<G: Graph>(
     graph: &G,
     reading: &mut [Triple],
     rows: &mut [Row],
-) -> Result<(usize, usize), Refusal>
+) -> Result<Worked, Refusal>
     ensures { Asked BottomUp (G.triples graph.now) not_at_reel [] empty_row reading.old reading.new rows.old rows.new result }
 {
     ask(graph, &NOT_AT_REEL, &[], reading, rows)

@@ -1,13 +1,7 @@
-use Rattle.history.proofs.OutcomeLaws.{by_rules, promised}
+use Rattle.history.proofs.OutcomeLaws.{promised}
 use Rattle.history.proofs.compare.agree.Goals as goal
 
-pub returns : goal.returns
-returns g c =
+pub returns-clause-promise : goal.returns-clause-promise
+returns-clause-promise g c =
     let q = c.args.query.now in
-    let down = by_rules q.entries.now q.values.now c.args.start.now _ _ _ _ _ _ _ c.put-down.ensures in
-    let up = by_rules q.entries.now q.values.now c.args.start.now _ _ _ _ _ _ _ c.put-up.ensures in
-    record {
-      left = down;
-      right = up;
-      promise = promised q.entries.now q.values.now c.args.start.now _ _ _ _ _ _ _ _ _ _ _ _ (g.L.Graph.lawful c.args.left.now).members down up;
-    }
+    promised q.entries.now q.values.now c.args.start.now _ _ _ _ _ _ _ _ _ _ _ _ (g.L.Graph.lawful c.args.left.now).members c.top_down-down.ensures c.bottom_up-up.ensures

@@ -1,15 +1,14 @@
-use Rattle.std.proofs.Common.{◌<◌, ◌≤◌, length, refl, ◌∙◌, subst, arith}
+use Rattle.std.proofs.Common.{◌<◌, ◌≤◌, length, None, refl, ◌∙◌, subst, arith}
 use Rattle.std.proofs.lemmas.List.{take_all}
 use Rattle.rdf.specs.Triples.{no_triple}
 use Rattle.history.specs.declared.step.Call.TheVariants.{Next}
-use Rattle.history.specs.declared.step.Answer.TheVariants.{Open}
 use Rattle.history.specs.declared.step.Step.{Step}
 use Rattle.history.specs.Runs.{Runs}
 use Rattle.history.proofs.RunLaws.{same_calls, run_more, runs_account, runs_make, runs_frame, runs_leaves, runs_reading, runs_rows}
 use Rattle.history.proofs.run.run.Goals as goal
 
 abbrev blank : Step
-blank = record { call = Next no_triple; answer = Open }
+blank = record { call = Next no_triple; answer = None }
 
 pub loop-step-init : goal.loop-step-init
 loop-step-init g c = (refl, (refl, refl, refl))
@@ -23,7 +22,7 @@ loop-step-preserved g c =
     let inside : i < length log = omega (arith, c.loop-step.auto.log) in (
       same_calls log i _ blank inside refl ∙ c.loop-step.invariant.0,
       run_more x.make x.triples x.room x.full e.frame e.unaltered _ _ _ _ _ _ _ _ _ _ _ log i _ inside c.loop-step.invariant.1
-          _ _ c.loop-step.auto.reading c.loop-step.auto.rows c.carry_out-step.ensures,
+          _ _ c.loop-step.auto.reading c.loop-step.auto.rows c.carry_out.ensures,
     )
 
 pub returns : goal.returns

@@ -12,7 +12,7 @@ pub returns : goal.returns
 returns g c =
     let first = c.open-graph.new.log in
     let second = c.run.new.log in
-    let parts = in_parts c.args.self.split c.within-split.result c.args.log.now first second c.within-split.ensures c.open-graph.auto.log c.run.auto.log in
+    let parts = in_parts c.args.self.split c.min-split.result c.args.log.now first second c.min-split.ensures c.open-graph.auto.log c.run.auto.log in
     let opened = c.open-graph.ensures in
     let ran = c.run.ensures in
     let graph = g.O.Made.Graph in

@@ -9,7 +9,7 @@ pub returns : goal.returns
 returns g c =
     let first = c.open-left.new.log in
     let second = c.open-right.new.log in
-    let parts = in_parts c.args.self.split c.within-split.result c.args.log.now first second c.within-split.ensures c.open-left.auto.log c.open-right.auto.log in
+    let parts = in_parts c.args.self.split c.min-split.result c.args.log.now first second c.min-split.ensures c.open-left.auto.log c.open-right.auto.log in
     let one = c.open-left.ensures in
     let two = c.open-right.ensures in
     let left : List Step → Course = g.A.Opening.course c.args.self.left in
