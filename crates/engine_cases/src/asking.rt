@@ -6,7 +6,7 @@ use rdf::refusal::Refusal;
 use rdf::row::{EMPTY_ROW, Row};
 use rdf::term::Term;
 use rdf::triple::Triple;
-use std::io;
+use std::{fmt, io};
 
 // What each place of a used memory holds.
 const USED_TRIPLE: Triple = Triple {
@@ -23,25 +23,60 @@ const READING: usize = 8;
 
 const ROWS: usize = 128;
 
-// A row by its bindings.
-fn print_row(rt: &impl Print, row: &Row) -> io::Result<()> {
-    print!(rt; " [")?;
-    for (variable, term) in row.places.iter().enumerate() {
-        let Term(number) = *term;
-        if number != 0 {
-            print!(rt; " v{variable}={number}")?;
-        }
-    }
-    print!(rt; " ]")
+// A question: a table with its value rows, a starting row, and how many places there are to read into and how many for rows.
+#[derive(Clone, Copy)]
+pub struct Case<'a> {
+    name: &'a str,
+    entries: &'a [Entry],
+    values: &'a [Row],
+    start: Row,
+    reading: usize,
+    rows: usize,
 }
 
-fn print_first(rt: &impl Print, rows: &[Row], count: usize) -> io::Result<()> {
-    for (place, row) in rows.iter().enumerate() {
-        if place < count {
-            print_row(rt, row)?;
+impl<'a> Case<'a> {
+    // A case with no value row, the empty starting row and three places to read into.
+    pub(crate) fn new(name: &'a str, entries: &'a [Entry], rows: usize) -> Case<'a> {
+        Case {
+            name,
+            entries,
+            values: &[],
+            start: EMPTY_ROW,
+            reading: 3,
+            rows,
         }
     }
-    Ok(())
+
+    // With value rows.
+    pub(crate) fn with(self, values: &'a [Row]) -> Case<'a> {
+        Case { values, ..self }
+    }
+
+    // At a starting row.
+    pub(crate) fn at(self, start: Row) -> Case<'a> {
+        Case { start, ..self }
+    }
+
+    // With other places to read into.
+    pub(crate) fn reading(self, reading: usize) -> Case<'a> {
+        Case { reading, ..self }
+    }
+}
+
+// A row by its bindings.
+#[derive(Drop)]
+struct Bindings<'a>(&'a Row);
+
+impl fmt::Display for Bindings<'_> {
+    fn fmt<W: fmt::Write>(&self, f: &mut fmt::Formatter<W>) -> fmt::Result {
+        write!(f, "[")?;
+        for (variable, term) in self.0.places.iter().enumerate() {
+            if !term.is_unbound() {
+                write!(f, " v{variable}={}", term.0)?;
+            }
+        }
+        write!(f, " ]")
+    }
 }
 
 fn print_answer(
@@ -52,7 +87,10 @@ fn print_answer(
     match answer {
         Ok((solutions, largest)) => {
             print!(rt; "({solutions}, {largest})")?;
-            print_first(rt, rows, solutions)
+            for row in rows.iter().take(solutions) {
+                print!(rt; " {}", Bindings(row))?;
+            }
+            Ok(())
         }
         Err(refusal) => {
             let number = refusal.number();
@@ -65,124 +103,50 @@ fn join(sum: u32, term: Term) -> u32 {
     sum.wrapping_mul(31).wrapping_add(term.0)
 }
 
-fn row_sum(before: u32, row: &Row) -> u32 {
-    let mut sum = before;
-    for term in &row.places {
-        sum = join(sum, *term);
-    }
-    sum
-}
-
 // A sum over all places in their order; 0 where every place is empty.
 fn rows_sum(rows: &[Row]) -> u32 {
-    let mut sum = 0;
-    for row in rows {
-        sum = row_sum(sum, row);
-    }
-    sum
+    rows.iter()
+        .flat_map(|row| row.places.iter().copied())
+        .fold(0, join)
 }
 
 fn reading_sum(reading: &[Triple]) -> u32 {
-    let mut sum = 0;
-    for triple in reading {
-        sum = join(sum, triple.subject);
-        sum = join(sum, triple.predicate);
-        sum = join(sum, triple.object);
-    }
-    sum
+    reading
+        .iter()
+        .flat_map(|triple| [triple.subject, triple.predicate, triple.object].into_iter())
+        .fold(0, join)
 }
 
-fn ask_in<G: Graph>(
-    rt: &impl Print,
-    graph: &G,
-    query: &Query,
-    start: &Row,
-    reading: &mut [Triple],
-    rows: &mut [Row],
-) -> io::Result<()> {
-    let answer = bottom_up(graph, query, start, reading, rows);
-    print_answer(rt, answer, rows)?;
-    let triples = reading_sum(reading);
-    let solutions = rows_sum(rows);
-    println!(rt; "; reading {triples}, rows {solutions}")
-}
-
-// A whole question, with so many places to read into and so many for rows.
-pub(crate) fn ask<'a, G: Graph>(
-    rt: &impl Print,
-    graph: &G,
-    name: &str,
-    entries: &'a [Entry],
-    values: &'a [Row],
-    start: Row,
-    reading_places: usize,
-    row_places: usize,
-) -> io::Result<()> {
-    print!(rt; "{name}: ")?;
+// Puts a question in memory that was used before.
+pub(crate) fn ask<G: Graph>(rt: &impl Print, graph: &G, case: &Case) -> io::Result<()> {
+    print!(rt; "{}: ", case.name)?;
     let mut reading = [USED_TRIPLE; READING];
     let mut rows = [USED_ROW; ROWS];
-    ask_in(
-        rt,
-        graph,
-        &Query { entries, values },
-        &start,
-        &mut reading[..reading_places.min(READING)],
-        &mut rows[..row_places.min(ROWS)],
+    let reading = &mut reading[..case.reading.min(READING)];
+    let rows = &mut rows[..case.rows.min(ROWS)];
+    let query = Query {
+        entries: case.entries,
+        values: case.values,
+    };
+    let answer = bottom_up(graph, &query, &case.start, reading, rows);
+    print_answer(rt, answer, rows)?;
+    println!(rt;
+        "; reading {}, rows {}",
+        reading_sum(reading),
+        rows_sum(rows)
     )
 }
 
-// With no value row, the empty starting row and three places to read into.
-pub(crate) fn put<G: Graph>(
+// Puts questions that belong together.
+pub(crate) fn ask_all<G: Graph>(
     rt: &impl Print,
     graph: &G,
-    name: &str,
-    entries: &[Entry],
-    row_places: usize,
+    title: &str,
+    cases: &[Case],
 ) -> io::Result<()> {
-    ask(rt, graph, name, entries, &[], EMPTY_ROW, 3, row_places)
-}
-
-// With value rows.
-pub(crate) fn put_with<'a, G: Graph>(
-    rt: &impl Print,
-    graph: &G,
-    name: &str,
-    values: &'a [Row],
-    entries: &'a [Entry],
-    row_places: usize,
-) -> io::Result<()> {
-    ask(rt, graph, name, entries, values, EMPTY_ROW, 3, row_places)
-}
-
-// At a starting row.
-pub(crate) fn put_at<G: Graph>(
-    rt: &impl Print,
-    graph: &G,
-    name: &str,
-    start: Row,
-    entries: &[Entry],
-    row_places: usize,
-) -> io::Result<()> {
-    ask(rt, graph, name, entries, &[], start, 3, row_places)
-}
-
-// With other places to read into.
-pub(crate) fn put_reading<G: Graph>(
-    rt: &impl Print,
-    graph: &G,
-    name: &str,
-    reading_places: usize,
-    entries: &[Entry],
-    row_places: usize,
-) -> io::Result<()> {
-    ask(
-        rt,
-        graph,
-        name,
-        entries,
-        &[],
-        EMPTY_ROW,
-        reading_places,
-        row_places,
-    )
+    println!(rt; "{title}:")?;
+    for case in cases {
+        ask(rt, graph, case)?;
+    }
+    Ok(())
 }

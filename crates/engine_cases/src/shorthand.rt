@@ -44,6 +44,19 @@ pub(crate) fn in_grams() -> Entry {
     Entry::Triple(v(1), the(5), the(9))
 }
 
+// The reels with no weight in grams per square metre.
+pub(crate) fn unmeasured() -> [Entry; 7] {
+    [
+        weights(),
+        Entry::Initial,
+        in_grams(),
+        Entry::And(1, 2),
+        Entry::Exists(3),
+        Entry::Not(4),
+        Entry::Filter(0, 5),
+    ]
+}
+
 // A condition that is an error, since v5 is never bound.
 pub(crate) fn error() -> Entry {
     Entry::Equal(v(5), the(9))
@@ -65,6 +78,11 @@ pub(crate) fn select_none(child: usize) -> Entry {
 // A SELECT of one variable.
 pub(crate) fn select_one(child: usize, variable: u8) -> Entry {
     Entry::Select(child, VariableSet::none().with(Variable(variable)))
+}
+
+// The rows of a pattern for which a condition is true.
+pub(crate) fn filtered(pattern: Entry, condition: Entry) -> [Entry; 3] {
+    [pattern, condition, Entry::Filter(0, 1)]
 }
 
 // VALUES of the rows from `first` on.

@@ -1,7 +1,8 @@
 // What the solutions are.
-use crate::asking::{put, put_at, put_with};
+use crate::asking::{Case, ask_all};
 use crate::shorthand::{
-    error, falsehood, in_grams, row, select_one, the, truth, v, values, weights,
+    error, falsehood, filtered, in_grams, row, select_one, the, truth, unmeasured, v, values,
+    weights,
 };
 use graph::graph::Graph;
 use query::table::Entry;
@@ -10,276 +11,156 @@ use std::io;
 
 // Patterns.
 fn matching<G: Graph>(rt: &impl Print, graph: &G) -> io::Result<()> {
-    println!(rt; "Patterns:")?;
-    put(
+    ask_all(
         rt,
         graph,
-        "reels without a partner",
+        "Patterns",
         &[
-            weights(),
-            Entry::Initial,
-            in_grams(),
-            Entry::And(1, 2),
-            Entry::Exists(3),
-            Entry::Not(4),
-            Entry::Filter(0, 5),
+            Case::new("reels without a partner", &unmeasured(), 14),
+            Case::new(
+                "optional part",
+                &[
+                    weights(),
+                    Entry::Triple(v(1), the(5), v(2)),
+                    Entry::Opt(0, 1),
+                ],
+                6,
+            ),
+            Case::new(
+                "MINUS agrees without sharing",
+                &[
+                    weights(),
+                    Entry::Triple(v(2), the(5), the(9)),
+                    Entry::Minus(0, 1),
+                ],
+                6,
+            ),
+            Case::new(
+                "MINUS keeps what disagrees",
+                &[weights(), in_grams(), Entry::Minus(0, 1)],
+                6,
+            ),
+            Case::new(
+                "UNION has each once",
+                &[weights(), weights(), Entry::Union(0, 1)],
+                6,
+            ),
+            Case::new("last variable", &[Entry::Triple(v(0), the(5), v(15))], 1),
         ],
-        14,
-    )?;
-    put(
-        rt,
-        graph,
-        "optional part",
-        &[
-            weights(),
-            Entry::Triple(v(1), the(5), v(2)),
-            Entry::Opt(0, 1),
-        ],
-        6,
-    )?;
-    put(
-        rt,
-        graph,
-        "MINUS agrees without sharing",
-        &[
-            weights(),
-            Entry::Triple(v(2), the(5), the(9)),
-            Entry::Minus(0, 1),
-        ],
-        6,
-    )?;
-    put(
-        rt,
-        graph,
-        "MINUS keeps what disagrees",
-        &[weights(), in_grams(), Entry::Minus(0, 1)],
-        6,
-    )?;
-    put(
-        rt,
-        graph,
-        "UNION has each once",
-        &[weights(), weights(), Entry::Union(0, 1)],
-        6,
-    )?;
-    put(
-        rt,
-        graph,
-        "last variable",
-        &[Entry::Triple(v(0), the(5), v(15))],
-        1,
     )
+}
+
+// The weights where two conditions, joined to a third, are false.
+fn unless(first: Entry, second: Entry, joined: Entry) -> [Entry; 6] {
+    [
+        weights(),
+        first,
+        second,
+        joined,
+        Entry::Not(3),
+        Entry::Filter(0, 4),
+    ]
 }
 
 // Conditions.
 fn three_valued<G: Graph>(rt: &impl Print, graph: &G) -> io::Result<()> {
-    println!(rt; "Conditions:")?;
-    put(
+    let both = Entry::Both(1, 2);
+    let either = Entry::Either(1, 2);
+    let stays = [weights(), error(), Entry::Not(1), Entry::Filter(0, 2)];
+    let true_before = [weights(), error(), truth(), either, Entry::Filter(0, 3)];
+    ask_all(
         rt,
         graph,
-        "error stays error",
-        &[weights(), error(), Entry::Not(1), Entry::Filter(0, 2)],
-        8,
-    )?;
-    put(
-        rt,
-        graph,
-        "false before error",
+        "Conditions",
         &[
-            weights(),
-            error(),
-            falsehood(),
-            Entry::Both(1, 2),
-            Entry::Not(3),
-            Entry::Filter(0, 4),
+            Case::new("error stays error", &stays, 8),
+            Case::new(
+                "false before error",
+                &unless(error(), falsehood(), both),
+                12,
+            ),
+            Case::new("error after false", &unless(falsehood(), error(), both), 12),
+            Case::new("error with true", &unless(error(), truth(), both), 12),
+            Case::new("true before error", &true_before, 10),
+            Case::new(
+                "error with false",
+                &unless(error(), falsehood(), either),
+                12,
+            ),
         ],
-        12,
-    )?;
-    put(
-        rt,
-        graph,
-        "error after false",
-        &[
-            weights(),
-            falsehood(),
-            error(),
-            Entry::Both(1, 2),
-            Entry::Not(3),
-            Entry::Filter(0, 4),
-        ],
-        12,
-    )?;
-    put(
-        rt,
-        graph,
-        "error with true",
-        &[
-            weights(),
-            error(),
-            truth(),
-            Entry::Both(1, 2),
-            Entry::Not(3),
-            Entry::Filter(0, 4),
-        ],
-        12,
-    )?;
-    put(
-        rt,
-        graph,
-        "true before error",
-        &[
-            weights(),
-            error(),
-            truth(),
-            Entry::Either(1, 2),
-            Entry::Filter(0, 3),
-        ],
-        10,
-    )?;
-    put(
-        rt,
-        graph,
-        "error with false",
-        &[
-            weights(),
-            error(),
-            falsehood(),
-            Entry::Either(1, 2),
-            Entry::Not(3),
-            Entry::Filter(0, 4),
-        ],
-        12,
     )
 }
 
 // Tests of terms, and SELECT.
 fn terms<G: Graph>(rt: &impl Print, graph: &G) -> io::Result<()> {
-    println!(rt; "Tests of terms, and SELECT:")?;
-    put(
+    ask_all(
         rt,
         graph,
-        "blank weights",
-        &[weights(), Entry::Blank(v(1)), Entry::Filter(0, 1)],
-        6,
-    )?;
-    put(
-        rt,
-        graph,
-        "no blank reels",
-        &[weights(), Entry::Blank(v(0)), Entry::Filter(0, 1)],
-        6,
-    )?;
-    put(
-        rt,
-        graph,
-        "equal terms",
-        &[weights(), Entry::Equal(v(0), the(17)), Entry::Filter(0, 1)],
-        6,
-    )?;
-    put(
-        rt,
-        graph,
-        "selected variable",
-        &[weights(), select_one(0, 0)],
-        4,
-    )?;
-    put(
-        rt,
-        graph,
-        "selected and never bound",
-        &[weights(), select_one(0, 2)],
-        4,
+        "Tests of terms, and SELECT",
+        &[
+            Case::new("blank weights", &filtered(weights(), Entry::Blank(v(1))), 6),
+            Case::new(
+                "no blank reels",
+                &filtered(weights(), Entry::Blank(v(0))),
+                6,
+            ),
+            Case::new(
+                "equal terms",
+                &filtered(weights(), Entry::Equal(v(0), the(17))),
+                6,
+            ),
+            Case::new("selected variable", &[weights(), select_one(0, 0)], 4),
+            Case::new(
+                "selected and never bound",
+                &[weights(), select_one(0, 2)],
+                4,
+            ),
+        ],
     )
 }
 
 // Value rows.
 fn value_rows<G: Graph>(rt: &impl Print, graph: &G) -> io::Result<()> {
-    println!(rt; "Value rows:")?;
-    put(rt, graph, "no value row", &[values(0, 0)], 1)?;
-    put_with(
+    ask_all(
         rt,
         graph,
-        "one empty value row",
-        &[EMPTY_ROW],
-        &[values(0, 1)],
-        1,
-    )?;
-    put_with(
-        rt,
-        graph,
-        "span from the second row",
-        &[row(1, 0, 0), row(5, 0, 0), row(9, 0, 0)],
-        &[values(1, 1)],
-        1,
-    )?;
-    put_with(
-        rt,
-        graph,
-        "value row twice",
-        &[row(1, 0, 0), row(1, 0, 0)],
-        &[values(0, 2)],
-        1,
-    )?;
-    put_with(
-        rt,
-        graph,
-        "literal in values",
-        &[row(3, 0, 0)],
-        &[values(0, 1)],
-        1,
-    )?;
-    put_with(
-        rt,
-        graph,
-        "empty span at the end",
-        &[EMPTY_ROW],
-        &[values(1, 0)],
-        1,
-    )?;
-    put_with(
-        rt,
-        graph,
-        "blank node outside the span",
-        &[EMPTY_ROW, row(2, 0, 0)],
-        &[values(0, 1)],
-        1,
+        "Value rows",
+        &[
+            Case::new("no value row", &[values(0, 0)], 1),
+            Case::new("one empty value row", &[values(0, 1)], 1).with(&[EMPTY_ROW]),
+            Case::new("span from the second row", &[values(1, 1)], 1).with(&[
+                row(1, 0, 0),
+                row(5, 0, 0),
+                row(9, 0, 0),
+            ]),
+            Case::new("value row twice", &[values(0, 2)], 1).with(&[row(1, 0, 0), row(1, 0, 0)]),
+            Case::new("literal in values", &[values(0, 1)], 1).with(&[row(3, 0, 0)]),
+            Case::new("empty span at the end", &[values(1, 0)], 1).with(&[EMPTY_ROW]),
+            Case::new("blank node outside the span", &[values(0, 1)], 1).with(&[
+                EMPTY_ROW,
+                row(2, 0, 0),
+            ]),
+        ],
     )
 }
 
 // Starting rows.
 fn starting_rows<G: Graph>(rt: &impl Print, graph: &G) -> io::Result<()> {
-    println!(rt; "Starting rows:")?;
-    put_at(
+    ask_all(
         rt,
         graph,
-        "joined starting row",
-        row(0, 6, 0),
-        &[Entry::Initial, weights(), Entry::And(0, 1)],
-        6,
-    )?;
-    put_at(
-        rt,
-        graph,
-        "starting row itself",
-        row(17, 0, 3),
-        &[Entry::Initial],
-        1,
-    )?;
-    put_at(
-        rt,
-        graph,
-        "blank node at the start",
-        row(2, 0, 0),
-        &[Entry::Initial],
-        1,
-    )?;
-    put_at(
-        rt,
-        graph,
-        "starting row cuts nothing",
-        row(17, 0, 0),
-        &[weights()],
-        2,
+        "Starting rows",
+        &[
+            Case::new(
+                "joined starting row",
+                &[Entry::Initial, weights(), Entry::And(0, 1)],
+                6,
+            )
+            .at(row(0, 6, 0)),
+            Case::new("starting row itself", &[Entry::Initial], 1).at(row(17, 0, 3)),
+            Case::new("blank node at the start", &[Entry::Initial], 1).at(row(2, 0, 0)),
+            Case::new("starting row cuts nothing", &[weights()], 2).at(row(17, 0, 0)),
+        ],
     )
 }
 

@@ -1,51 +1,41 @@
 // Tables as long as they may be, and one entry longer.
-use crate::asking::put;
+use crate::asking::{Case, ask_all};
 use crate::shorthand::{select_none, select_one, weights};
 use graph::graph::Graph;
 use query::table::Entry;
 use std::io;
 
-// Each entry selects no variable from the one before.
+// INITIAL, and then entries that each select no variable from the one before.
 fn chain(entries: &mut [Entry]) {
-    for k in 1..entries.len() {
-        entries[k] = select_none(k - 1);
+    for (before, entry) in entries.iter_mut().skip(1).enumerate() {
+        *entry = select_none(before);
     }
 }
 
 // Each second entry is the UNION of the two before it.
 fn tower(entries: &mut [Entry]) {
-    for k in 2..entries.len() {
-        if k % 2 == 0 {
-            entries[k] = Entry::Union(k - 2, k - 1);
-        }
+    for k in (2..entries.len()).step_by(2) {
+        entries[k] = Entry::Union(k - 2, k - 1);
     }
 }
 
-fn chains<G: Graph>(rt: &impl Print, graph: &G) -> io::Result<()> {
+pub(crate) fn tables<G: Graph>(rt: &impl Print, graph: &G) -> io::Result<()> {
     let mut longest = [Entry::Initial; 64];
     chain(&mut longest);
-    put(rt, graph, "INITIAL and 63 SELECTs", &longest, 64)?;
     let mut longer = [Entry::Initial; 65];
     chain(&mut longer);
-    put(rt, graph, "INITIAL and 64 SELECTs", &longer, 65)
-}
-
-fn towers<G: Graph>(rt: &impl Print, graph: &G) -> io::Result<()> {
-    let mut entries = [weights(); 64];
-    tower(&mut entries);
-    entries[63] = select_one(62, 0);
-    put(rt, graph, "32 TRIPLEs under 31 UNIONs", &entries, 128)?;
-    put(
+    let mut unions = [weights(); 64];
+    tower(&mut unions);
+    unions[63] = select_one(62, 0);
+    ask_all(
         rt,
         graph,
-        "32 TRIPLEs under 31 UNIONs, one place short",
-        &entries,
-        127,
+        "Tables of 64 entries and of 65",
+        &[
+            Case::new("INITIAL and 63 SELECTs", &longest, 64),
+            Case::new("INITIAL and 64 SELECTs", &longer, 65),
+            Case::new("32 TRIPLEs under 31 UNIONs", &unions, 128),
+            Case::new("32 TRIPLEs under 31 UNIONs, one place short", &unions, 127),
+        ],
     )
-}
-
-pub(crate) fn tables<G: Graph>(rt: &impl Print, graph: &G) -> io::Result<()> {
-    println!(rt; "Tables of 64 entries and of 65:")?;
-    chains(rt, graph)?;
-    towers(rt, graph)
 }

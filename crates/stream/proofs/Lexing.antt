@@ -1,46 +1,65 @@
--- Shows how blanks and digits are passed, byte by byte.
-use Rattle.std.proofs.Common.{◌≡◌, ℕ, ◌+◌, ◌<◌, ◌≤◌, true, false, List, [], ◌∷◌, length, get_or, drop, Ok, Err, sym, refl, ap, ◌∙◌, arith}
-use Rattle.std.proofs.lemmas.List.{at_drop_more, drop_more, drop_all}
-use Rattle.std.proofs.lemmas.Bool.{cond-true, cond-false}
+-- Shows that a text is cut where its blanks and where its first number end.
+use Rattle.std.proofs.Common.{◌≡◌, ℕ, suc, ◌+◌, ◌<◌, Bool, true, false, cond, not, List, [], ◌∷◌, length, take, drop, Ok, Err, Result, sym, refl, ap, ◌∙◌, arith}
+use Rattle.std.specs.List.{prefix_len, take_while}
+use Rattle.std.proofs.lemmas.List.Folds.{length-prefix_len}
 use Rattle.stream.specs.Numerals.{after_blanks, after_numeral, is_blank, number_on, numeral, with_digit}
 use Rattle.stream.specs.declared.fault.Cause.{Cause}
 
-module _ (text : List ℕ) (i d : ℕ) (inside : i < length text) where
-  pub blank_passed : true ≡ is_blank (get_or text i d) → after_blanks (drop i text) ≡ after_blanks (drop (i + 1) text)
-  blank_passed h = at_drop_more after_blanks text i d inside ∙ cond-true _ _ _ (sym h)
+abbrev pub no_blank : ℕ → Bool
+no_blank b = not (is_blank b)
 
-  pub blanks_end : false ≡ is_blank (get_or text i d) → after_blanks (drop i text) ≡ drop i text
-  blanks_end h = at_drop_more after_blanks text i d inside ∙ cond-false _ _ _ (sym h) ∙ sym (drop_more text i d inside)
+one_more : (n : ℕ) → 1 + n ≡ suc n
+one_more n = omega arith
 
-  pub number_ends : (n : ℕ) → true ≡ is_blank (get_or text i d) → number_on (Ok n) (drop i text) ≡ Ok n
-  number_ends n h = at_drop_more (number_on (Ok n)) text i d inside ∙ cond-true _ _ _ (sym h)
+blanks_cut : (bs : List ℕ) → drop (prefix_len is_blank bs) bs ≡ after_blanks bs
+blanks_cut [] = refl
+blanks_cut (b ∷ bs) = at (is_blank b) (blanks_cut bs)
+  where
+    at : (c : Bool) → drop (prefix_len is_blank bs) bs ≡ after_blanks bs → drop (cond c (1 + prefix_len is_blank bs) 0) (b ∷ bs) ≡ cond c (after_blanks bs) (b ∷ bs)
+    at true more = ap (λ n. drop n (b ∷ bs)) (one_more (prefix_len is_blank bs)) ∙ more
+    at false more = refl
 
-  pub rest_begins : true ≡ is_blank (get_or text i d) → after_numeral (drop i text) ≡ drop i text
-  rest_begins h = at_drop_more after_numeral text i d inside ∙ cond-true _ _ _ (sym h) ∙ sym (drop_more text i d inside)
+numeral_cut : (bs : List ℕ) → drop (prefix_len no_blank bs) bs ≡ after_numeral bs
+numeral_cut [] = refl
+numeral_cut (b ∷ bs) = at (is_blank b) (numeral_cut bs)
+  where
+    at : (c : Bool) → drop (prefix_len no_blank bs) bs ≡ after_numeral bs → drop (cond (not c) (1 + prefix_len no_blank bs) 0) (b ∷ bs) ≡ cond c (b ∷ bs) (after_numeral bs)
+    at true more = refl
+    at false more = ap (λ n. drop n (b ∷ bs)) (one_more (prefix_len no_blank bs)) ∙ more
 
-  pub digit_read : (n : ℕ) → false ≡ is_blank (get_or text i d) → number_on (Ok n) (drop i text) ≡ number_on (with_digit n (get_or text i d)) (drop (i + 1) text)
-  digit_read n h = at_drop_more (number_on (Ok n)) text i d inside ∙ cond-false _ _ _ (sym h)
+-- the number whose first digits are those of n, and whose other digits are all that follows
+abbrev pub digits_on : Result ℕ Cause → List ℕ → Result ℕ Cause
+digits_on so_far [] = so_far
+digits_on (Ok n) (d ∷ ds) = digits_on (with_digit n d) ds
+digits_on (Err cause) (d ∷ ds) = Err cause
 
-  pub digit_passed : false ≡ is_blank (get_or text i d) → after_numeral (drop i text) ≡ after_numeral (drop (i + 1) text)
-  digit_passed h = at_drop_more after_numeral text i d inside ∙ cond-false _ _ _ (sym h)
-
-  -- a number begins where the text goes on
-  pub numeral_there : numeral (drop i text) ≡ number_on (Ok 0) (drop i text)
-  numeral_there = at_drop_more numeral text i d inside ∙ sym (at_drop_more (number_on (Ok 0)) text i d inside)
-
--- a fault stays
-pub fault_stays : (cause : Cause) (bs : List ℕ) → number_on (Err cause) bs ≡ Err cause
+pub fault_stays : (cause : Cause) (ds : List ℕ) → digits_on (Err cause) ds ≡ Err cause
 fault_stays cause [] = refl
-fault_stays cause (b ∷ bs) = refl
+fault_stays cause (d ∷ ds) = refl
 
--- all of the text is passed
-module _ (text : List ℕ) (i : ℕ) (outside : length text ≤ i) where
-  pub at_end : {Y : Type 0} (f : List ℕ → Y) → f (drop i text) ≡ f (drop (length text) text)
-  at_end f = ap f (drop_all i text outside ∙ sym (drop_all (length text) text (omega arith)))
+digits_cut : (so_far : Result ℕ Cause) (bs : List ℕ) → digits_on so_far (take (prefix_len no_blank bs) bs) ≡ number_on so_far bs
+digits_cut (Ok n) [] = refl
+digits_cut (Err cause) [] = refl
+digits_cut (Err cause) (b ∷ bs) = fault_stays cause (take (prefix_len no_blank (b ∷ bs)) (b ∷ bs))
+digits_cut (Ok n) (b ∷ bs) = at (is_blank b) (digits_cut (with_digit n b) bs)
+  where
+    at : (c : Bool) → digits_on (with_digit n b) (take (prefix_len no_blank bs) bs) ≡ number_on (with_digit n b) bs → digits_on (Ok n) (take (cond (not c) (1 + prefix_len no_blank bs) 0) (b ∷ bs)) ≡ cond c (Ok n) (number_on (with_digit n b) bs)
+    at true more = refl
+    at false more = ap (λ m. digits_on (Ok n) (take m (b ∷ bs))) (one_more (prefix_len no_blank bs)) ∙ more
 
-module _ (text : List ℕ) where
-  pub nothing : drop (length text) text ≡ []
-  nothing = drop_all (length text) text (omega arith)
+numeral_there : (bs : List ℕ) → 0 < length bs → numeral bs ≡ number_on (Ok 0) bs
+numeral_there [] lt = absurd (omega arith)
+numeral_there (b ∷ bs) lt = refl
 
-  pub none_left : after_blanks (drop (length text) text) ≡ drop (length text) text
-  none_left = ap after_blanks nothing ∙ sym nothing
+-- n bytes of a text are its blanks
+pub after_cut : (text : List ℕ) (n : ℕ) → n ≡ length (take_while is_blank text) → drop n text ≡ after_blanks text
+after_cut text n e = ap (λ i. drop i text) (e ∙ length-prefix_len is_blank text) ∙ blanks_cut text
+
+-- n bytes of a text are its number
+module _ (text : List ℕ) (n : ℕ) (e : n ≡ length (take_while no_blank text)) where
+  pub rest_cut : drop n text ≡ after_numeral text
+  rest_cut = ap (λ i. drop i text) (e ∙ length-prefix_len no_blank text) ∙ numeral_cut text
+
+  pub number_cut : (digits : List ℕ) → digits ≡ take n text → 0 < length text → digits_on (Ok 0) digits ≡ numeral text
+  number_cut digits front some =
+      ap (digits_on (Ok 0)) (front ∙ ap (λ i. take i text) (e ∙ length-prefix_len no_blank text)) ∙ digits_cut (Ok 0) text ∙ sym (numeral_there text some)

@@ -1,4 +1,3 @@
 -- The lemmas of this crate.
 mod Collecting
 mod Lexing
-mod Summing

@@ -1,6 +1,6 @@
 -- What the lines of answers tell: the number of a refusal, and sums over memory. Assumes nothing.
 use Rattle.std.specs.Prelude.{ℕ, ◌+◌, ◌*◌, ◌%◌, Bool, ◌&&◌, List, [], ◌∷◌, map, Ok, Err, Result}
-use Rattle.order.specs.Lists.{for_each}
+use Rattle.std.specs.List.{flat_map, fold}
 use Rattle.rdf.specs.Refusals.{number}
 use Rattle.rdf.specs.Variables.{bit, in_range}
 use Rattle.rdf.specs.declared.refusal.Refusal.{Refusal}
@@ -20,8 +20,7 @@ with_number sum n = (sum * 31 + n) % 4294967291
 
 -- a sum with more numbers, one after the other
 abbrev pub sum_with : ℕ → List ℕ → ℕ
-sum_with sum [] = sum
-sum_with sum (n ∷ ns) = sum_with (with_number sum n) ns
+sum_with sum ns = fold with_number sum ns
 
 abbrev pub triple_numbers : Triple → List ℕ
 triple_numbers t = t.subject.0 ∷ t.predicate.0 ∷ t.object.0 ∷ []
@@ -34,10 +33,10 @@ row_numbers r = term_numbers r.places
 
 -- the sum of memory for reading, and of memory for rows
 abbrev pub reading_sum : List Triple → ℕ
-reading_sum places = sum_with 0 (for_each triple_numbers places)
+reading_sum places = sum_with 0 (flat_map triple_numbers places)
 
 abbrev pub row_sum : List Row → ℕ
-row_sum rows = sum_with 0 (for_each row_numbers rows)
+row_sum rows = sum_with 0 (flat_map row_numbers rows)
 
 -- whether a variable is in the set that a mask of sixteen bits stands for
 abbrev pub in_mask : ℕ → Variable → Bool

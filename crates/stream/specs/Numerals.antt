@@ -41,7 +41,7 @@ first_number bs = numeral (after_blanks bs)
 abbrev pub after_first : List ℕ → List ℕ
 after_first bs = after_numeral (after_blanks bs)
 
--- the number of a number with where it ends
-abbrev pub read_value : Result (ℕ × ℕ) Cause → Result ℕ Cause
+-- the number of a number with what follows it
+abbrev pub read_value : {X : Type 0} → Result (ℕ × X) Cause → Result ℕ Cause
 read_value (Ok read) = Ok read.0
 read_value (Err cause) = Err cause

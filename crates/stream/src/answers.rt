@@ -1,13 +1,14 @@
 // The lines of answers.
 ghost use Rattle.std.specs.Prelude.{◌≡◌};
-ghost use Rattle.stream.specs.Answers.{code_of, reading_sum, row_sum, sum_with, term_numbers, with_number};
+ghost use Rattle.stream.specs.Answers.{code_of, reading_sum, row_sum, with_number};
 
 use rdf::refusal::Refusal;
 use rdf::row::Row;
 use rdf::term::Term;
 use rdf::triple::Triple;
-use std::io;
+use semantics::strategy::Strategy;
 use std::io::Write;
+use std::{fmt, io};
 
 // The largest prime below 2^32.
 const MODULUS: u64 = 4294967291;
@@ -23,34 +24,19 @@ fn with_number(sum: u32, number: u32) -> u32
 pub(crate) fn reading_sum(places: &[Triple]) -> u32
     ensures { result ≡ reading_sum places.now }
 {
-    let mut sum = 0;
-    for place in places {
-        sum = with_number(sum, place.subject.0);
-        sum = with_number(sum, place.predicate.0);
-        sum = with_number(sum, place.object.0);
-    }
-    sum
-}
-
-fn with_terms(sum: u32, terms: &[Term]) -> u32
-    ensures { result ≡ sum_with sum (term_numbers terms.now) }
-{
-    let mut total = sum;
-    for term in terms {
-        total = with_number(total, term.0);
-    }
-    total
+    places
+        .iter()
+        .flat_map(|place| [place.subject.0, place.predicate.0, place.object.0].into_iter())
+        .fold(0, with_number)
 }
 
 // The sum of memory for rows, place by place.
 pub(crate) fn row_sum(rows: &[Row]) -> u32
     ensures { result ≡ row_sum rows.now }
 {
-    let mut sum = 0;
-    for row in rows {
-        sum = with_terms(sum, &row.places);
-    }
-    sum
+    rows.iter()
+        .flat_map(|row| row.places.iter().map(|term| term.0))
+        .fold(0, with_number)
 }
 
 // 0, or the refusal's number.
@@ -73,23 +59,29 @@ pub(crate) fn write_change<W: Write>(
     writeln!(out, "1 {code} {free}")
 }
 
-fn write_triple<W: Write>(out: &mut W, triple: &Triple) -> io::Result<()> {
-    let s = triple.subject.0;
-    let p = triple.predicate.0;
-    let o = triple.object.0;
-    write!(out, " {s} {p} {o}")
+fn terms(triple: &Triple) -> [Term; 3] {
+    [triple.subject, triple.predicate, triple.object]
+}
+
+// The numbers of some terms, each after a blank.
+#[derive(Drop)]
+struct Numbered<'a>(&'a [Term]);
+
+impl fmt::Display for Numbered<'_> {
+    fn fmt<W: fmt::Write>(&self, f: &mut fmt::Formatter<W>) -> fmt::Result {
+        for term in self.0 {
+            write!(f, " {}", term.0)?;
+        }
+        Ok(())
+    }
 }
 
 // The triple that was found.
 pub(crate) fn write_next<W: Write>(out: &mut W, found: Option<Triple>) -> io::Result<()> {
     match found {
-        Some(triple) => {
-            write!(out, "2 1")?;
-            write_triple(out, &triple)?;
-        }
-        None => write!(out, "2 0 0 0 0")?,
+        Some(triple) => writeln!(out, "2 1{}", Numbered(&terms(&triple))),
+        None => writeln!(out, "2 0 0 0 0"),
     }
-    writeln!(out)
 }
 
 // A whole set.
@@ -97,43 +89,35 @@ pub(crate) fn write_set<W: Write>(out: &mut W, triples: &[Triple]) -> io::Result
     let count = triples.len();
     write!(out, "3 {count}")?;
     for triple in triples {
-        write_triple(out, triple)?;
+        write!(out, "{}", Numbered(&terms(triple)))?;
     }
     writeln!(out)
 }
 
-// How a question is worked out.
-#[derive(Clone, Copy)]
-pub enum Way {
-    BottomUp = 0,
-    TopDown = 1,
-}
-
-fn write_row<W: Write>(out: &mut W, row: &Row) -> io::Result<()> {
-    write!(out, "5")?;
-    for term in &row.places {
-        let number = term.0;
-        write!(out, " {number}")?;
+// The number that a strategy has on a line.
+fn number(strategy: Strategy) -> u8 {
+    match strategy {
+        Strategy::BottomUp => 0,
+        Strategy::TopDown => 1,
     }
-    writeln!(out)
 }
 
 // What a question came to and what memory then holds; after it the solutions, which stand first in row memory.
 pub(crate) fn write_answer<W: Write>(
     out: &mut W,
-    way: Way,
+    strategy: Strategy,
     answer: Result<(usize, usize), Refusal>,
     reading: &[Triple],
     rows: &[Row],
 ) -> io::Result<()> {
     let code = code(&answer);
     let (solutions, largest) = answer.unwrap_or((0, 0));
-    let way = way as u8;
+    let way = number(strategy);
     let reading = reading_sum(reading);
     let sum = row_sum(rows);
     writeln!(out, "4 {way} {code} {solutions} {largest} {reading} {sum}")?;
     for row in rows.iter().take(solutions) {
-        write_row(out, row)?;
+        writeln!(out, "5{}", Numbered(&row.places))?;
     }
     Ok(())
 }

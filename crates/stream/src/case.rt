@@ -1,8 +1,9 @@
 // The cases of a stream: a graph, calls on it and on what it lies over, and questions to it.
 ghost use Rattle.std.specs.Prelude.{◌≡◌, IfOk};
 
-use crate::answers::{Way, write_answer, write_change, write_next, write_set};
-use crate::fault::{Cause, Choice};
+use crate::answers::{write_answer, write_change, write_next, write_set};
+use crate::fault::Cause;
+use crate::kinds::Call;
 use crate::numbers::Numbers;
 use crate::record::{Question, Record, list};
 use engine::question::{bottom_up, top_down};
@@ -12,6 +13,7 @@ use query::table::Query;
 use rdf::row::Row;
 use rdf::term::Term;
 use rdf::triple::{NO_TRIPLE, Triple};
+use semantics::strategy::Strategy;
 use std::alloc::{AllocError, Global};
 use std::io::Write;
 
@@ -30,15 +32,11 @@ pub(crate) fn calls<G: EditableGraph, W: Write>(
 ) -> Result<(), Cause> {
     let count = desk.numbers.count()?;
     for _ in 0..count {
-        let call = desk.numbers.next()?;
-        if call != 1 && call != 2 {
-            return Err(Cause::NoChoice(Choice::Call));
-        }
+        let call = desk.numbers.choice()?;
         let triple = Triple::read(&mut desk.numbers)?;
-        let answer = if call == 1 {
-            graph.add(triple)
-        } else {
-            graph.remove(triple)
+        let answer = match call {
+            Call::Add => graph.add(triple),
+            Call::Remove => graph.remove(triple),
         };
         write_change(&mut desk.out, answer, graph.free())?;
     }
@@ -74,7 +72,7 @@ const SEVEN_ROW: Row = Row {
 // Puts a question one way, in memory of its own.
 fn put<G: Graph, W: Write>(
     desk: &mut Desk<W>,
-    way: Way,
+    strategy: Strategy,
     graph: &G,
     question: &Question,
 ) -> Result<(), Cause> {
@@ -85,11 +83,11 @@ fn put<G: Graph, W: Write>(
         values: question.values.as_slice(),
     };
     let start = &question.start;
-    let answer = match way {
-        Way::BottomUp => bottom_up(graph, &query, start, &mut reading, &mut rows),
-        Way::TopDown => top_down(graph, &query, start, &mut reading, &mut rows),
+    let answer = match strategy {
+        Strategy::BottomUp => bottom_up(graph, &query, start, &mut reading, &mut rows),
+        Strategy::TopDown => top_down(graph, &query, start, &mut reading, &mut rows),
     };
-    write_answer(&mut desk.out, way, answer, &reading, &rows)?;
+    write_answer(&mut desk.out, strategy, answer, &reading, &rows)?;
     Ok(())
 }
 
@@ -106,8 +104,8 @@ fn questions<G: Graph, W: Write>(desk: &mut Desk<W>, graph: &G) -> Result<(), Ca
     let count = desk.numbers.count()?;
     for _ in 0..count {
         let question = Question::read(&mut desk.numbers, desk.heap)?;
-        put(desk, Way::BottomUp, graph, &question)?;
-        put(desk, Way::TopDown, graph, &question)?;
+        put(desk, Strategy::BottomUp, graph, &question)?;
+        put(desk, Strategy::TopDown, graph, &question)?;
     }
     Ok(())
 }

@@ -1,5 +1,9 @@
 // Why a stream is not answered to its end, and where.
+ghost use Rattle.std.specs.Prelude.{◌≡◌};
+ghost use Rattle.stream.specs.declared.fault.Cause.TheVariants.{NoChoice, TooLarge};
+
 use std::alloc::{AllocError, AllocFailed};
+use std::num::TryFromIntError;
 use std::{fmt, io};
 
 // What a number may choose.
@@ -42,6 +46,22 @@ pub struct Fault {
     pub cause: Cause,
 }
 
+impl From<Choice> for Cause {
+    ghost from_gives = { λ choice cause. cause ≡ NoChoice choice };
+
+    fn from(choice: Choice) -> Cause {
+        Cause::NoChoice(choice)
+    }
+}
+
+impl From<TryFromIntError> for Cause {
+    ghost from_gives = { λ _ cause. cause ≡ TooLarge };
+
+    fn from(_error: TryFromIntError) -> Cause {
+        Cause::TooLarge
+    }
+}
+
 impl From<AllocError> for Cause {
     fn from(_error: AllocError) -> Cause {
         Cause::Memory
@@ -72,12 +92,12 @@ impl From<io::Error> for Fault {
 
 impl fmt::Display for Choice {
     fn fmt<W: fmt::Write>(&self, f: &mut fmt::Formatter<W>) -> fmt::Result {
-        match self {
-            Choice::Shape => write!(f, "shape"),
-            Choice::Call => write!(f, "call"),
-            Choice::Position => write!(f, "kind of position"),
-            Choice::Entry => write!(f, "kind of entry"),
-        }
+        f.write_str(match self {
+            Choice::Shape => "shape",
+            Choice::Call => "call",
+            Choice::Position => "kind of position",
+            Choice::Entry => "kind of entry",
+        })
     }
 }
 
@@ -98,9 +118,7 @@ impl fmt::Display for Cause {
 
 impl fmt::Display for Fault {
     fn fmt<W: fmt::Write>(&self, f: &mut fmt::Formatter<W>) -> fmt::Result {
-        let line = self.place.line;
-        let number = self.place.number;
-        let cause = &self.cause;
-        write!(f, "line {line}, number {number}: {cause}")
+        let Place { line, number } = self.place;
+        write!(f, "line {line}, number {number}: {}", self.cause)
     }
 }

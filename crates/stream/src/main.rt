@@ -5,6 +5,7 @@
 mod answers;
 mod case;
 mod fault;
+mod kinds;
 mod numbers;
 mod record;
 mod shape;

@@ -1,19 +1,20 @@
 // Numbers in a text, between blanks and line feeds.
-ghost use Rattle.std.specs.Prelude.{◌≡◌, ◌≤◌, drop, IfOk, if◌then◌else◌, Ok, Err, OnOk};
+ghost use Rattle.std.specs.Prelude.{◌≡◌, IfOk, if◌then◌else◌, Ok, Err, OnOk, length, not};
+ghost use Rattle.std.specs.List.{take_while};
 ghost use Rattle.order.specs.Lists.{is_empty};
 ghost use Rattle.stream.specs.declared.fault.Cause.TheVariants.{Rest};
 ghost use Rattle.stream.specs.Numerals.{after_blanks, after_first, after_numeral, first_number, is_blank, numeral, read_value, with_digit};
 
-use crate::fault::{Cause, Place};
+use crate::fault::{Cause, Choice, Place};
 
 // The numbers of a text from some byte on.
 #[derive(Drop)]
 pub struct Numbers<'a> {
     text: &'a [u8],
-    // Where the next byte stands.
-    at: usize,
-    // Where the last number that was asked for begins, or should begin.
-    begun: usize,
+    // What is left of the text.
+    rest: &'a [u8],
+    // The text from where the last number that was asked for begins, or should begin.
+    due: &'a [u8],
 }
 
 fn is_blank(byte: u8) -> bool
@@ -22,35 +23,42 @@ fn is_blank(byte: u8) -> bool
     byte == b' ' || byte == b'\n'
 }
 
-// The first byte from `at` on that is no blank; the text's end where there is none.
-fn after_blanks(text: &[u8], at: usize) -> usize
-    ensures { drop result text.now ≡ after_blanks (drop at text.now) }
+// How many blanks a text begins with.
+fn blanks(text: &[u8]) -> usize
+    ensures { result ≡ length (take_while is_blank text.now) }
 {
-    for i in at..text.len() {
-        if !is_blank(text[i]) {
-            return i;
-        }
-    }
-    text.len()
+    text.iter().take_while(|byte| is_blank(**byte)).count()
 }
 
-// The number that begins at `at`, and where it ends.
-fn numeral(text: &[u8], at: usize) -> Result<(u32, usize), Cause>
-    ensures value { read_value result ≡ numeral (drop at text.now) }
-    ensures rest { IfOk result (λ read. drop read.1 text.now ≡ after_numeral (drop at text.now)) }
+// How many other bytes it begins with.
+fn digits(text: &[u8]) -> usize
+    ensures { result ≡ length (take_while (λ b. not (is_blank b)) text.now) }
 {
-    if at >= text.len() {
+    text.iter().take_while(|byte| !is_blank(**byte)).count()
+}
+
+// The text from its first byte on that is no blank.
+#[tactic(auto, using(crate::proofs::Lexing::after_cut))]
+fn after_blanks(text: &[u8]) -> &[u8]
+    ensures { result.now ≡ after_blanks text.now }
+{
+    text.split_at(blanks(text)).1
+}
+
+// The number that begins a text, and what follows it.
+fn numeral(text: &[u8]) -> Result<(u32, &[u8]), Cause>
+    ensures value { read_value result ≡ numeral text.now }
+    ensures rest { IfOk result (λ read. read.1.now ≡ after_numeral text.now) }
+{
+    if text.is_empty() {
         return Err(Cause::End);
     }
+    let (digits, rest) = text.split_at(digits(text));
     let mut value = 0;
-    for i in at..text.len() {
-        let byte = text[i];
-        if is_blank(byte) {
-            return Ok((value, i));
-        }
-        value = with_digit(value, byte)?;
+    for digit in digits {
+        value = with_digit(value, *digit)?;
     }
-    Ok((value, text.len()))
+    Ok((value, rest))
 }
 
 // The number with one more digit at its end.
@@ -61,69 +69,66 @@ fn with_digit(value: u32, byte: u8) -> Result<u32, Cause>
         return Err(Cause::Byte(byte));
     }
     let next = value as u64 * 10 + (byte - b'0') as u64;
-    if next <= u32::MAX as u64 {
-        Ok(next as u32)
-    } else {
-        Err(Cause::TooLarge)
-    }
+    u32::try_from(next).map_err(|_| Cause::TooLarge)
 }
 
 impl<'a> Numbers<'a> {
     pub(crate) fn new(text: &'a [u8]) -> Numbers<'a> {
         Numbers {
             text,
-            at: 0,
-            begun: 0,
+            rest: text,
+            due: text,
         }
     }
 
     // The next number.
     pub(crate) fn next(&mut self) -> Result<u32, Cause>
         ensures text { self.new.text.now ≡ self.old.text.now }
-        ensures value { result ≡ first_number (drop self.old.at self.old.text.now) }
-        ensures rest { OnOk result (drop self.new.at self.new.text.now ≡ after_first (drop self.old.at self.old.text.now)) }
+        ensures value { result ≡ first_number self.old.rest.now }
+        ensures rest { OnOk result (self.new.rest.now ≡ after_first self.old.rest.now) }
     {
-        self.begun = after_blanks(self.text, self.at);
-        let (value, end) = numeral(self.text, self.begun)?;
-        self.at = end;
+        self.due = after_blanks(self.rest);
+        let (value, rest) = numeral(self.due)?;
+        self.rest = rest;
         Ok(value)
     }
 
     // The next number, as how many or which.
     pub(crate) fn count(&mut self) -> Result<usize, Cause>
         ensures text { self.new.text.now ≡ self.old.text.now }
-        ensures value { result ≡ first_number (drop self.old.at self.old.text.now) }
-        ensures rest { OnOk result (drop self.new.at self.new.text.now ≡ after_first (drop self.old.at self.old.text.now)) }
+        ensures value { result ≡ first_number self.old.rest.now }
+        ensures rest { OnOk result (self.new.rest.now ≡ after_first self.old.rest.now) }
     {
         let value = self.next()?;
         Ok(value as usize)
     }
 
+    // What the next number chooses.
+    pub(crate) fn choice<T: TryFrom<u32, Error = Choice>>(&mut self) -> Result<T, Cause> {
+        Ok(T::try_from(self.next()?)?)
+    }
+
     // Whether only blanks are left.
     pub(crate) fn finish(&mut self) -> Result<(), Cause>
-        ensures { result ≡ (if is_empty (after_blanks (drop self.old.at self.old.text.now)) then Ok tt else Err Rest) }
+        ensures { result ≡ (if is_empty (after_blanks self.old.rest.now) then Ok tt else Err Rest) }
     {
-        self.begun = after_blanks(self.text, self.at);
-        if self.begun < self.text.len() {
-            return Err(Cause::Rest);
+        self.due = after_blanks(self.rest);
+        if self.due.is_empty() {
+            Ok(())
+        } else {
+            Err(Cause::Rest)
         }
-        Ok(())
     }
 
     // Where the last number that was asked for stands.
     pub(crate) fn place(&self) -> Place {
-        let mut place = Place { line: 1, number: 1 };
-        let mut blank_before = true;
-        for i in 0..self.begun.min(self.text.len()) {
-            let byte = self.text[i];
-            if byte == b'\n' {
-                place.line = place.line.saturating_add(1);
-            }
-            if blank_before && !is_blank(byte) {
-                place.number = place.number.saturating_add(1);
-            }
-            blank_before = is_blank(byte);
+        let passed = &self.text[..self.text.len().saturating_sub(self.due.len())];
+        let line_feeds = passed.iter().filter(|byte| **byte == b'\n').count();
+        let words = passed.split(|byte| is_blank(*byte));
+        let numbers = words.filter(|word| !word.is_empty()).count();
+        Place {
+            line: line_feeds.saturating_add(1),
+            number: numbers.saturating_add(1),
         }
-        place
     }
 }

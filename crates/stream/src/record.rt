@@ -3,7 +3,8 @@ ghost use Rattle.std.specs.Prelude.{◌≡◌};
 ghost use Rattle.rdf.specs.Variables.{in_set};
 ghost use Rattle.stream.specs.Answers.{in_mask};
 
-use crate::fault::{Cause, Choice};
+use crate::fault::Cause;
+use crate::kinds::{EntryKind, PositionKind};
 use crate::numbers::Numbers;
 use query::table::{Entry, Position};
 use rdf::row::{EMPTY_ROW, Row};
@@ -47,10 +48,7 @@ impl Record for Row {
 
 impl Record for Variable {
     fn read(numbers: &mut Numbers) -> Result<Variable, Cause> {
-        match u8::try_from(numbers.next()?) {
-            Ok(number) => Ok(Variable(number)),
-            Err(_) => Err(Cause::TooLarge),
-        }
+        Ok(Variable(u8::try_from(numbers.next()?)?))
     }
 }
 
@@ -69,72 +67,47 @@ fn variables_of(mask: u16) -> VariableSet
 
 impl Record for VariableSet {
     fn read(numbers: &mut Numbers) -> Result<VariableSet, Cause> {
-        match u16::try_from(numbers.next()?) {
-            Ok(mask) => Ok(variables_of(mask)),
-            Err(_) => Err(Cause::TooLarge),
-        }
+        Ok(variables_of(u16::try_from(numbers.next()?)?))
     }
 }
 
 impl Record for Position {
     fn read(numbers: &mut Numbers) -> Result<Position, Cause> {
-        match numbers.next()? {
-            0 => Ok(Position::Variable(Variable::read(numbers)?)),
-            1 => Ok(Position::Term(Term::read(numbers)?)),
-            _ => Err(Cause::NoChoice(Choice::Position)),
-        }
+        Ok(match numbers.choice()? {
+            PositionKind::Variable => Position::Variable(Variable::read(numbers)?),
+            PositionKind::Term => Position::Term(Term::read(numbers)?),
+        })
     }
 }
 
 impl Record for Entry {
     fn read(numbers: &mut Numbers) -> Result<Entry, Cause> {
-        let kind = numbers.next()?;
-        if kind < 9 {
-            pattern(kind, numbers)
-        } else {
-            condition(kind, numbers)
-        }
+        Ok(match numbers.choice()? {
+            EntryKind::Triple => Entry::Triple(
+                Position::read(numbers)?,
+                Position::read(numbers)?,
+                Position::read(numbers)?,
+            ),
+            EntryKind::Values => Entry::Values {
+                first: numbers.count()?,
+                count: numbers.count()?,
+            },
+            EntryKind::Initial => Entry::Initial,
+            EntryKind::And => Entry::And(numbers.count()?, numbers.count()?),
+            EntryKind::Union => Entry::Union(numbers.count()?, numbers.count()?),
+            EntryKind::Opt => Entry::Opt(numbers.count()?, numbers.count()?),
+            EntryKind::Minus => Entry::Minus(numbers.count()?, numbers.count()?),
+            EntryKind::Select => Entry::Select(numbers.count()?, VariableSet::read(numbers)?),
+            EntryKind::Filter => Entry::Filter(numbers.count()?, numbers.count()?),
+            EntryKind::Equal => Entry::Equal(Position::read(numbers)?, Position::read(numbers)?),
+            EntryKind::Blank => Entry::Blank(Position::read(numbers)?),
+            EntryKind::Bound => Entry::Bound(Variable::read(numbers)?),
+            EntryKind::Not => Entry::Not(numbers.count()?),
+            EntryKind::Both => Entry::Both(numbers.count()?, numbers.count()?),
+            EntryKind::Either => Entry::Either(numbers.count()?, numbers.count()?),
+            EntryKind::Exists => Entry::Exists(numbers.count()?),
+        })
     }
-}
-
-// The pattern of a kind.
-fn pattern(kind: u32, numbers: &mut Numbers) -> Result<Entry, Cause> {
-    Ok(match kind {
-        0 => {
-            let subject = Position::read(numbers)?;
-            let predicate = Position::read(numbers)?;
-            Entry::Triple(subject, predicate, Position::read(numbers)?)
-        }
-        1 => Entry::Values {
-            first: numbers.count()?,
-            count: numbers.count()?,
-        },
-        2 => Entry::Initial,
-        3 => Entry::And(numbers.count()?, numbers.count()?),
-        4 => Entry::Union(numbers.count()?, numbers.count()?),
-        5 => Entry::Opt(numbers.count()?, numbers.count()?),
-        6 => Entry::Minus(numbers.count()?, numbers.count()?),
-        7 => Entry::Select(numbers.count()?, VariableSet::read(numbers)?),
-        8 => Entry::Filter(numbers.count()?, numbers.count()?),
-        _ => return Err(Cause::NoChoice(Choice::Entry)),
-    })
-}
-
-// The condition of a kind.
-fn condition(kind: u32, numbers: &mut Numbers) -> Result<Entry, Cause> {
-    Ok(match kind {
-        9 => {
-            let left = Position::read(numbers)?;
-            Entry::Equal(left, Position::read(numbers)?)
-        }
-        10 => Entry::Blank(Position::read(numbers)?),
-        11 => Entry::Bound(Variable::read(numbers)?),
-        12 => Entry::Not(numbers.count()?),
-        13 => Entry::Both(numbers.count()?, numbers.count()?),
-        14 => Entry::Either(numbers.count()?, numbers.count()?),
-        15 => Entry::Exists(numbers.count()?),
-        _ => return Err(Cause::NoChoice(Choice::Entry)),
-    })
 }
 
 // How many, and then so many.

@@ -1,6 +1,7 @@
 // The shapes of graphs, each built from the inside out.
 use crate::case::{Desk, ask, calls};
-use crate::fault::{Cause, Choice, Fault};
+use crate::fault::{Cause, Fault};
+use crate::kinds::{GraphKind, Shape};
 use crate::numbers::Numbers;
 use crate::record::list;
 use graph::graph::Graph;
@@ -12,158 +13,122 @@ use rdf::triple::{NO_TRIPLE, Triple};
 use std::alloc::Global;
 use std::io::Write;
 
-#[derive(Clone, Copy)]
-enum Kind {
-    List,
-    Stored,
-    Overlay,
-    Union,
-}
-
-impl Kind {
-    fn number(self) -> u32 {
-        match self {
-            Kind::List => 0,
-            Kind::Stored => 1,
-            Kind::Overlay => 2,
-            Kind::Union => 3,
-        }
-    }
-}
-
 // Takes the number of the kind that is due.
-fn due<W: Write>(desk: &mut Desk<W>, kind: Kind) -> Result<(), Cause> {
-    if desk.numbers.next()? != kind.number() {
-        return Err(Cause::Misfit);
+fn due<W: Write>(desk: &mut Desk<W>, kind: GraphKind) -> Result<(), Cause> {
+    if desk.numbers.next()? == kind as u32 {
+        Ok(())
+    } else {
+        Err(Cause::Misfit)
     }
-    Ok(())
 }
 
-// The entries of a list.
+// What is done with a graph once it is read.
+trait Next {
+    fn go_on<G: Graph + Drop, W: Write>(self, desk: &mut Desk<W>, graph: G) -> Result<(), Cause>;
+}
+
+// The graph is asked.
+#[derive(Clone, Copy)]
+struct Asked;
+
+impl Next for Asked {
+    fn go_on<G: Graph + Drop, W: Write>(self, desk: &mut Desk<W>, graph: G) -> Result<(), Cause> {
+        ask(desk, &graph)
+    }
+}
+
+// An overlay is laid over the graph, and changed by the calls that follow.
+#[derive(Clone, Copy)]
+struct Overlaid<N>(N);
+
+impl<N: Next + Drop> Next for Overlaid<N> {
+    fn go_on<G: Graph + Drop, W: Write>(self, desk: &mut Desk<W>, graph: G) -> Result<(), Cause> {
+        let mut overlay = Overlay::new(graph);
+        calls(desk, &mut overlay)?;
+        self.0.go_on(desk, overlay)
+    }
+}
+
+// The graph is joined with the list that follows.
+#[derive(Clone, Copy)]
+struct JoinedWithList<N>(N);
+
+impl<N: Next + Drop> Next for JoinedWithList<N> {
+    fn go_on<G: Graph + Drop, W: Write>(self, desk: &mut Desk<W>, graph: G) -> Result<(), Cause> {
+        let entries = entries(desk)?;
+        self.0
+            .go_on(desk, UnionGraph::new(graph, TripleList::new(&entries)))
+    }
+}
+
+// The graph is joined with the stored graph that follows.
+#[derive(Clone, Copy)]
+struct JoinedWithStored<N>(N);
+
+impl<N: Next + Drop> Next for JoinedWithStored<N> {
+    fn go_on<G: Graph + Drop, W: Write>(self, desk: &mut Desk<W>, graph: G) -> Result<(), Cause> {
+        let mut places = places(desk)?;
+        let mut stored = StoredGraph::new(&mut places);
+        calls(desk, &mut stored)?;
+        self.0.go_on(desk, UnionGraph::new(graph, stored))
+    }
+}
+
+// The entries of the list that is due.
 fn entries<W: Write>(desk: &mut Desk<W>) -> Result<Vec<Triple>, Cause> {
-    due(desk, Kind::List)?;
+    due(desk, GraphKind::List)?;
     list(&mut desk.numbers, desk.heap)
 }
 
-// The places of a stored graph.
+// The places of the stored graph that is due.
 fn places<W: Write>(desk: &mut Desk<W>) -> Result<Vec<Triple>, Cause> {
-    due(desk, Kind::Stored)?;
+    due(desk, GraphKind::Stored)?;
     let count = desk.numbers.count()?;
     let places = vec![in desk.heap; NO_TRIPLE; count]?;
     Ok(places)
 }
 
-// An overlay over a graph, after its calls.
-fn overlay<B: Graph + Drop, W: Write>(desk: &mut Desk<W>, base: B) -> Result<Overlay<B>, Cause> {
-    let mut overlay = Overlay::new(base);
-    calls(desk, &mut overlay)?;
-    Ok(overlay)
-}
-
-fn over<B: Graph + Drop, W: Write>(desk: &mut Desk<W>, base: B) -> Result<(), Cause> {
-    let overlay = overlay(desk, base)?;
-    ask(desk, &overlay)
-}
-
-fn union_of<L: Graph + Drop, R: Graph + Drop, W: Write>(
-    desk: &mut Desk<W>,
-    left: L,
-    right: R,
-) -> Result<(), Cause> {
-    ask(desk, &UnionGraph::new(left, right))
-}
-
-fn over_union<L: Graph + Drop, R: Graph + Drop, W: Write>(
-    desk: &mut Desk<W>,
-    left: L,
-    right: R,
-) -> Result<(), Cause> {
-    over(desk, UnionGraph::new(left, right))
-}
-
-fn over_overlay<B: Graph + Drop, W: Write>(desk: &mut Desk<W>, base: B) -> Result<(), Cause> {
-    let lower = overlay(desk, base)?;
-    over(desk, lower)
-}
-
-// The union of an overlay with the list that follows it.
-fn overlay_and_list<B: Graph + Drop, W: Write>(desk: &mut Desk<W>, base: B) -> Result<(), Cause> {
-    let left = overlay(desk, base)?;
+// Goes on with the list that is due.
+fn of_list<W: Write, N: Next + Drop>(desk: &mut Desk<W>, next: N) -> Result<(), Cause> {
     let entries = entries(desk)?;
-    union_of(desk, left, TripleList::new(&entries))
+    next.go_on(desk, TripleList::new(&entries))
 }
 
-fn list_case<W: Write>(desk: &mut Desk<W>) -> Result<(), Cause> {
-    let entries = entries(desk)?;
-    ask(desk, &TripleList::new(&entries))
-}
-
-fn stored_case<W: Write>(desk: &mut Desk<W>) -> Result<(), Cause> {
+// Goes on with the stored graph that is due, after its calls.
+fn of_stored<W: Write, N: Next + Drop>(desk: &mut Desk<W>, next: N) -> Result<(), Cause> {
     let mut places = places(desk)?;
     let mut stored = StoredGraph::new(&mut places);
     calls(desk, &mut stored)?;
-    ask(desk, &stored)
+    next.go_on(desk, stored)
 }
 
-fn overlay_list_case<W: Write>(desk: &mut Desk<W>) -> Result<(), Cause> {
-    due(desk, Kind::Overlay)?;
-    let entries = entries(desk)?;
-    over(desk, TripleList::new(&entries))
+// The kinds that a shape has outside its innermost graph.
+fn layers(shape: Shape) -> &'static [GraphKind] {
+    match shape {
+        Shape::List | Shape::Stored => &[],
+        Shape::OverlayOfList | Shape::OverlayOfStored => &[GraphKind::Overlay],
+        Shape::UnionOfListAndStored => &[GraphKind::Union],
+        Shape::OverlayOfUnion => &[GraphKind::Overlay, GraphKind::Union],
+        Shape::OverlayOfOverlay => &[GraphKind::Overlay, GraphKind::Overlay],
+        Shape::UnionOfOverlayAndList => &[GraphKind::Union, GraphKind::Overlay],
+    }
 }
 
-fn overlay_stored_case<W: Write>(desk: &mut Desk<W>) -> Result<(), Cause> {
-    due(desk, Kind::Overlay)?;
-    let mut places = places(desk)?;
-    let mut stored = StoredGraph::new(&mut places);
-    calls(desk, &mut stored)?;
-    over(desk, stored)
-}
-
-fn union_list_stored_case<W: Write>(desk: &mut Desk<W>) -> Result<(), Cause> {
-    due(desk, Kind::Union)?;
-    let entries = entries(desk)?;
-    let mut places = places(desk)?;
-    let mut stored = StoredGraph::new(&mut places);
-    calls(desk, &mut stored)?;
-    union_of(desk, TripleList::new(&entries), stored)
-}
-
-fn overlay_union_case<W: Write>(desk: &mut Desk<W>) -> Result<(), Cause> {
-    due(desk, Kind::Overlay)?;
-    due(desk, Kind::Union)?;
-    let left = entries(desk)?;
-    let right = entries(desk)?;
-    over_union(desk, TripleList::new(&left), TripleList::new(&right))
-}
-
-fn overlay_overlay_case<W: Write>(desk: &mut Desk<W>) -> Result<(), Cause> {
-    due(desk, Kind::Overlay)?;
-    due(desk, Kind::Overlay)?;
-    let entries = entries(desk)?;
-    over_overlay(desk, TripleList::new(&entries))
-}
-
-fn union_overlay_case<W: Write>(desk: &mut Desk<W>) -> Result<(), Cause> {
-    due(desk, Kind::Union)?;
-    due(desk, Kind::Overlay)?;
-    let mut places = places(desk)?;
-    let mut stored = StoredGraph::new(&mut places);
-    calls(desk, &mut stored)?;
-    overlay_and_list(desk, stored)
-}
-
-// A case of the shape that the next number says.
+// A case of the shape that the next number chooses.
 fn case<W: Write>(desk: &mut Desk<W>) -> Result<(), Cause> {
-    match desk.numbers.next()? {
-        0 => list_case(desk),
-        1 => stored_case(desk),
-        2 => overlay_list_case(desk),
-        3 => overlay_stored_case(desk),
-        4 => union_list_stored_case(desk),
-        5 => overlay_union_case(desk),
-        6 => overlay_overlay_case(desk),
-        7 => union_overlay_case(desk),
-        _ => Err(Cause::NoChoice(Choice::Shape)),
+    let shape = desk.numbers.choice()?;
+    for layer in layers(shape) {
+        due(desk, *layer)?;
+    }
+    match shape {
+        Shape::List => of_list(desk, Asked),
+        Shape::Stored => of_stored(desk, Asked),
+        Shape::OverlayOfList => of_list(desk, Overlaid(Asked)),
+        Shape::OverlayOfStored => of_stored(desk, Overlaid(Asked)),
+        Shape::UnionOfListAndStored => of_list(desk, JoinedWithStored(Asked)),
+        Shape::OverlayOfUnion => of_list(desk, JoinedWithList(Overlaid(Asked))),
+        Shape::OverlayOfOverlay => of_list(desk, Overlaid(Overlaid(Asked))),
+        Shape::UnionOfOverlayAndList => of_stored(desk, Overlaid(JoinedWithList(Asked))),
     }
 }
 
@@ -185,11 +150,8 @@ pub(crate) fn answer<W: Write + Drop>(heap: Global, text: &[u8], out: W) -> Resu
         out,
         heap,
     };
-    match cases(&mut desk) {
-        Ok(()) => Ok(()),
-        Err(cause) => Err(Fault {
-            place: desk.numbers.place(),
-            cause,
-        }),
-    }
+    cases(&mut desk).map_err(|cause| Fault {
+        place: desk.numbers.place(),
+        cause,
+    })
 }

@@ -1,53 +1,34 @@
--- Each digit is read and passed; the number ends before a blank or at the text's end.
-use Rattle.std.proofs.Common.{◌≡◌, ◌+◌, drop, Ok, Err, sym, ap, ◌∙◌}
-use Rattle.std.proofs.lemmas.List.{drop_all}
-use Rattle.std.proofs.lemmas.Result.{err_from_is_err_and, IfOk-from_err}
-use Rattle.stream.specs.Numerals.{after_numeral, number_on, numeral, read_value}
-use Rattle.stream.proofs.Lexing.{digit_passed, digit_read, fault_stays, nothing, number_ends, numeral_there, rest_begins}
+-- The digits are what stands before the first blank; the first fault among them is the whole number's.
+use Rattle.std.proofs.Common.{◌≡◌, ◌+◌, ◌<◌, length, drop, Ok, Err, sym, ap, ◌∙◌, arith, false-eqb}
+use Rattle.std.proofs.lemmas.List.{at_drop_more, drop_all}
+use Rattle.std.proofs.lemmas.Result.{err_from_is_err_and}
+use Rattle.stream.specs.Numerals.{read_value, with_digit}
+use Rattle.stream.proofs.Lexing.{digits_on, fault_stays, number_cut, rest_cut}
 use Rattle.stream.proofs.numbers.numeral.Goals as goal
 
-pub returns-then-at-text : goal.returns-then-at-text
-returns-then-at-text c = record { value = sym (ap numeral (drop_all c.args.at c.args.text.now c.if-at-text.true)); rest = tt }
-
-pub returns-then-is_blank : goal.returns-then-is_blank
-returns-then-is_blank c =
+pub returns-in_err-value-clause-value : goal.returns-in_err-value-clause-value
+returns-in_err-value-clause-value c =
     let text = c.args.text.now in
-    let blank = c.if-is_blank.ensures in
-    let there : numeral (drop c.args.at text) ≡ number_on (Ok 0) (drop c.args.at text) = numeral_there text c.args.at 0 c.if-at-text.false in
-    record {
-      value = sym (there ∙ sym c.loop-i.invariant.0 ∙ number_ends text c.loop-i.i 0 c.loop-i-test.true c.loop-i.value blank);
-      rest = sym (rest_begins text c.loop-i.i 0 c.loop-i-test.true blank) ∙ c.loop-i.invariant.1;
-    }
-
-pub returns-in_err-value : goal.returns-in_err-value
-returns-in_err-value c =
-    let text = c.args.text.now in
-    let there : numeral (drop c.args.at text) ≡ number_on (Ok 0) (drop c.args.at text) = numeral_there text c.args.at 0 c.if-at-text.false in
-    let read = digit_read text c.loop-i.i 0 c.loop-i-test.true c.loop-i.value c.if-is_blank.ensures in
+    let digits = c.split_at.result.0.now in
+    let value = c.loop-digit.value in
+    let i = c.loop-digit.digit-index in
+    let some : 0 < length text = omega (arith, false-eqb (length text) 0 c.if-is_empty.ensures) in
     let p = err_from_is_err_and c.from_residual.result c.from_residual.ensures.1 in
     let cause = c.in_err-value.field-0.0 in
-    let rest = drop (c.loop-i.i + 1) text in
-    let fault : number_on (Ok c.loop-i.value) (drop c.loop-i.i text) ≡ Err cause = read ∙ ap (λ r. number_on r rest) (sym c.with_digit.ensures ∙ c.in_err-value.was) ∙ fault_stays cause rest in
-    record {
-      value = ap read_value p.1 ∙ ap Err p.2 ∙ sym fault ∙ c.loop-i.invariant.0 ∙ sym there;
-      rest = IfOk-from_err c.from_residual.result _ c.from_residual.ensures.0;
-    }
+    let rest = drop (i + 1) digits in
+    let read = at_drop_more (digits_on (Ok value)) digits i 0 c.loop-digit-test.true in
+    let fault : digits_on (Ok value) (drop i digits) ≡ Err cause =
+    read ∙ ap (λ r. digits_on r rest) (sym c.with_digit.ensures ∙ c.in_err-value.was) ∙ fault_stays cause rest in
+    ap read_value p.1 ∙ ap Err p.2 ∙ sym fault ∙ c.loop-digit.invariant ∙ number_cut text c.digits.result c.digits.ensures digits c.split_at.ensures.front some
 
-pub loop-i-preserved : goal.loop-i-preserved
-loop-i-preserved c =
+pub returns-clause-value : goal.returns-clause-value
+returns-clause-value c =
     let text = c.args.text.now in
-    let word = c.if-is_blank.ensures in
-    let more = ap (λ r. number_on r (drop (c.loop-i.i + 1) text)) (sym c.with_digit.ensures ∙ c.in_ok-value.was) in (
-      sym (digit_read text c.loop-i.i 0 c.loop-i-test.true c.loop-i.value word ∙ more) ∙ c.loop-i.invariant.0,
-      sym (digit_passed text c.loop-i.i 0 c.loop-i-test.true word) ∙ c.loop-i.invariant.1,
-    )
+    let digits = c.split_at.result.0.now in
+    let some : 0 < length text = omega (arith, false-eqb (length text) 0 c.if-is_empty.ensures) in
+    sym (ap (digits_on (Ok c.loop-digit.value)) (drop_all c.loop-digit.digit-index digits c.loop-digit-test.false)) ∙ c.loop-digit.invariant
+    ∙ number_cut text c.digits.result c.digits.ensures digits c.split_at.ensures.front some
 
-pub returns : goal.returns
-returns c =
-    let text = c.args.text.now in
-    let there : numeral (drop c.args.at text) ≡ number_on (Ok 0) (drop c.args.at text) = numeral_there text c.args.at 0 c.if-at-text.false in
-    let end = c.loop-i-test.false in
-    record {
-      value = sym (there ∙ sym c.loop-i.invariant.0 ∙ ap (number_on (Ok c.loop-i.value)) (drop_all c.loop-i.i text end));
-      rest = nothing text ∙ sym (ap after_numeral (drop_all c.loop-i.i text end)) ∙ c.loop-i.invariant.1;
-    }
+pub returns-clause-rest : goal.returns-clause-rest
+returns-clause-rest c =
+    c.split_at.ensures.back ∙ rest_cut c.args.text.now c.digits.result c.digits.ensures
