@@ -1,18 +1,11 @@
 -- What the tests of a table say of one of its entries. Assumes nothing.
-use Rattle.std.proofs.Common.{◌≡◌, ℕ, zero, suc, ◌+◌, ◌<◌, ◌≤◌, Bool, true, ltb, List, [], ◌∷◌, length, get_or, take, ap, ◌∙◌, ⊎_elim, add-zero, arith}
-use Rattle.std.proofs.lemmas.List.{get_or_default}
-use Rattle.std.proofs.lemmas.List.Sums.{sum_by_more}
+use Rattle.std.proofs.Common.{◌≡◌, ℕ, zero, suc, ◌+◌, ◌<◌, ◌≤◌, Bool, true, ltb, List, [], ◌∷◌, length, get_or, ⊎_elim, add-zero, arith}
 use Rattle.std.proofs.lemmas.Bool.{and_parts, cases_eq, ltb-true, lt-ltb}
-use denote.Enum.Bare.{sameb}
 use Rattle.order.proofs.Every.{every_weaker}
-use Rattle.query.specs.contracts.table.Kind.{the_type}
 use Rattle.query.specs.declared.table.Entry.{Entry}
-use Rattle.query.specs.declared.table.Entry.TheVariants.{Initial}
-use Rattle.query.specs.declared.table.Kind.{Kind}
-use Rattle.query.specs.declared.table.Kind.TheVariants.{Pattern, Condition}
-use Rattle.query.specs.Entries.{children_of, kind_of}
+use Rattle.query.specs.Entries.{children_of}
 use Rattle.query.specs.Every.{every_below, every_from}
-use Rattle.query.specs.Rules.{names_below, names_earlier, kind_at, same_kind, times_in, times_named}
+use Rattle.query.specs.Rules.{names_below, names_earlier}
 
 pub every_from_at : {X : Type 0} (p : ℕ → X → Bool) (n : ℕ) (xs : List X) (i : ℕ) (d : X) → i < length xs → every_from p n xs ≡ true → p (n + i) (get_or xs i d) ≡ true
 every_from_at p n [] i d in' h = absurd (omega arith)
@@ -38,18 +31,3 @@ pub names_earlier_at : (es : List Entry) (i : ℕ) (d : Entry) → i < length es
 names_earlier_at es i d in' h =
     let same : 0 + i ≡ i = omega arith in
     rw same at (every_from_at names_below 0 es i d in' h)
-
--- what `==` on kinds tells
-pub same_kind_when : (x y : Kind) (r : Bool) → r ≡ sameb the_type x y → r ≡ same_kind x y
-same_kind_when Pattern Pattern r h = h
-same_kind_when Condition Condition r h = h
-same_kind_when Pattern Condition r h = h
-same_kind_when Condition Pattern r h = h
-
--- the same where one kind is that of an entry that was read
-pub is_kind : (es : List Entry) (n : ℕ) (d : Entry) (k due : Kind) (r : Bool) → n < length es → k ≡ kind_of (get_or es n d) → r ≡ sameb the_type k due → r ≡ same_kind (kind_at es n) due
-is_kind es n d k due r in' read h = same_kind_when k due r h ∙ ap (λ x. same_kind x due) (read ∙ ap kind_of (get_or_default es n d Initial in'))
-
--- one entry more in the count of who names n
-pub times_named_more : (es : List Entry) (n i : ℕ) (d : Entry) {total here : ℕ} → i < length es → total ≡ times_named (take i es) n → here ≡ times_in n (get_or es i d) → total + here ≡ times_named (take (i + 1) es) n
-times_named_more es n i d in' sofar read = omega (arith, sum_by_more (times_in n) es i d in')

@@ -1,6 +1,7 @@
 -- Sums over the numbers below a bound. Assumes nothing.
 use Rattle.std.proofs.Common.{◌≡◌, ℕ, zero, suc, ◌+◌, ◌*◌, ◌<◌, ◌≤◌, Bool, true, cond, eqb, List, [], ◌∷◌, length, get_or, take, sum_by, sym, refl, ap, ◌∙◌, ⊎_elim, one-mul, zero-mul, add-one, arith}
 use Rattle.std.proofs.lemmas.List.Sums.{sum_by-cons, sum_by_more}
+pub use Rattle.std.proofs.lemmas.List.Sums.{get_or-le-sum_by as sum_one}
 use Rattle.std.proofs.lemmas.Bool.{and_parts, cases_eq, eq-eqb, ne_eqb}
 use Rattle.order.specs.Lists.{every}
 
@@ -55,12 +56,7 @@ sum_by_same f g p same (x ∷ xs) h =
     let both = and_parts (p x) (every p xs) h in
     omega (arith, sum_by-cons f x xs, sum_by-cons g x xs, same x both.0, sum_by_same f g p same xs both.1)
 
--- one summand is no more than the sum, nor are two together
-pub sum_one : {X : Type 0} (f : X → ℕ) (xs : List X) (i : ℕ) (d : X) → i < length xs → f (get_or xs i d) ≤ sum_by f xs
-sum_one f [] i d lt = absurd (omega arith)
-sum_one f (x ∷ xs) zero d lt = let e = sum_by-cons f x xs in omega arith
-sum_one f (x ∷ xs) (suc i) d lt = let e = sum_by-cons f x xs in let h = sum_one f xs i d (omega arith) in omega arith
-
+-- one summand is no more than the sum (`sum_one`), nor are two together
 pub sum_two : {X : Type 0} (f : X → ℕ) (xs : List X) (i j : ℕ) (d : X) → i < j → j < length xs → f (get_or xs i d) + f (get_or xs j d) ≤ sum_by f xs
 sum_two f [] i j d lt inside = absurd (omega arith)
 sum_two f (x ∷ xs) i zero d lt inside = absurd (omega arith)

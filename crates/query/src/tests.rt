@@ -4,6 +4,7 @@ use crate::validation::check;
 use rdf::row::{EMPTY_ROW, Row};
 use rdf::term::Term;
 use rdf::variable::Variable;
+use std::array;
 
 // The number of the refusal; none where the query passes.
 fn told<'a>(entries: &'a [Entry], values: &'a [Row], start: Row, row_places: usize) -> Option<u8> {
@@ -54,23 +55,21 @@ fn ground(subject: u32, predicate: u32, object: u32) -> Entry {
 }
 
 // Two INITIALs, an EXISTS of the second, NOT upon NOT of it, and a FILTER of the first by the last of them.
-fn chain(table: &mut [Entry]) {
-    if let [_, _, exists, nots @ .., filter] = table {
-        *filter = Entry::Filter(0, nots.len() + 2);
-        *exists = Entry::Exists(1);
-        for (n, not) in nots.iter_mut().enumerate() {
-            *not = Entry::Not(n + 2);
-        }
-    }
+fn chain<const N: usize>() -> [Entry; N] {
+    let last = N.saturating_sub(1);
+    array::from_fn(|n| match n {
+        0 | 1 => Entry::Initial,
+        2 => Entry::Exists(1),
+        _ if n == last => Entry::Filter(0, n - 1),
+        _ => Entry::Not(n - 1),
+    })
 }
 
 // A chain of 64 entries passes, one of 65 does not; nor does an empty table.
 #[test]
 fn size(rt: HostRuntime) {
-    let mut most = [Entry::Initial; 64];
-    chain(&mut most);
-    let mut more = [Entry::Initial; 65];
-    chain(&mut more);
+    let most = chain::<64>();
+    let more = chain::<65>();
     assert_eq!(rt;
         [told_of(&most), told_of(&more), told_of(&[])],
         [None, Some(1), Some(1)]
