@@ -138,7 +138,7 @@ impl<O: Opening> Opening for LaidOver<O> {
 
     ghost idle = { λ o k l. O.Opening.idle o.beneath k l };
 
-    ghost runs = { λ o i j l g. O.Opening.runs o.beneath i j l g.base × (take g.count g.marks ≡ []) };
+    ghost runs = { λ o i j l g. O.Opening.runs o.beneath i j l g.base × (g.marks ≡ []) };
 
     fn open(self, log: &mut [Step], reading: &mut [Triple], rows: &mut [Row]) -> Overlay<O::Made> {
         Overlay::new(self.beneath.open(log, reading, rows))

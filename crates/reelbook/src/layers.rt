@@ -1,5 +1,5 @@
 // Graphs laid over one another.
-ghost use Rattle.std.specs.Prelude.{◌≡◌, [], length, take};
+ghost use Rattle.std.specs.Prelude.{◌≡◌, [], length};
 ghost use Rattle.order.specs.Sets.{insert_all, symmetric_difference};
 ghost use Rattle.rdf.specs.Triples.{compare_triples};
 ghost use Rattle.graph.specs.Histories.{History, account, laid_over};
@@ -19,7 +19,7 @@ use rdf::triple::Triple;
 pub fn correct<B: Graph>(base: B, steps: &mut [Step]) -> Overlay<B>
     ensures requests { requests steps.new ≡ requests steps.old }
     ensures course { Course (overlaid (B.Graph.triples base)) (B.Graph.triples base) steps.new }
-    ensures history { (h : History) → account h ≡ B.Graph.triples base → account (since (laid_over h) steps.new) ≡ symmetric_difference compare_triples (take result.count result.marks) (B.Graph.triples result.base) }
+    ensures history { (h : History) → account h ≡ B.Graph.triples base → account (since (laid_over h) steps.new) ≡ symmetric_difference compare_triples result.marks (B.Graph.triples result.base) }
     ensures base { result.base ≡ base }
 {
     let mut overlay = Overlay::new(base);
