@@ -1,4 +1,5 @@
 pub mod Courses
+pub mod Memories
 pub mod Replies
 pub mod Runs
 pub mod Outcomes

@@ -9,19 +9,23 @@ use Rattle.semantics.specs.declared.strategy.Strategy.{Strategy}
 use Rattle.semantics.specs.declared.worked.Worked.{Worked}
 use Rattle.semantics.specs.Questions.{answer, refusal_number}
 use Rattle.engine.specs.Solving.{Asked}
+use Rattle.history.specs.declared.memory.Memory.{Memory}
 use Rattle.history.specs.declared.step.Step.{Step}
 use Rattle.history.specs.Courses.{Course}
+use Rattle.history.specs.Memories.{SamePlaces}
 use Rattle.history.specs.Replies.{Truthful, number_of, reading_since, rows_since}
 
--- a log that was carried out in the course c: it has the same calls, each answered by the rules, and the memories m and w, which it was
--- lent, then hold m_then and w_then
-pub record Logged (c : Course) (log log_then : List Step) (m m_then : List Triple) (w w_then : List Row) : Type 0 where
+-- a log that was carried out in the course c: it has the same calls, each answered by the rules, and the memory m, which it was lent, is
+-- then m_then
+pub record Logged (c : Course) (log log_then : List Step) (m m_then : Memory) : Type 0 where
   pub calls : map (λ x. x.call) log_then ≡ map (λ x. x.call) log
-  pub answers : Truthful (length m) (length w) c
-  pub reading : m_then ≡ reading_since (length m) (length w) c m
-  pub rows : w_then ≡ rows_since (length m) (length w) c w
+  pub answers : Truthful (length m.reading.now) (length m.rows.now) c
+  pub same : SamePlaces m m_then
+  pub reading : m_then.reading.now ≡ reading_since (length m.reading.now) (length m.rows.now) c m.reading.now
+  pub rows : m_then.rows.now ≡ rows_since (length m.reading.now) (length m.rows.now) c m.rows.now
 
--- a question: over the set g, with the memories m and w before it and m_then and w_then after it, it returned r
-pub record Outcome (strategy : Strategy) (g : List Triple) (entries : List Entry) (values : List Row) (start : Row) (m m_then : List Triple) (w w_then : List Row) (r : Result Worked Refusal) : Type 0 where
-  pub asked : Asked strategy g entries values start m m_then w w_then r
-  pub numbered : number_of (Some r) ≡ refusal_number (answer strategy g entries values start (length m) (length w))
+-- a question: over the set g, with the memory m before it and m_then after it, it returned r
+pub record Outcome (strategy : Strategy) (g : List Triple) (entries : List Entry) (values : List Row) (start : Row) (m m_then : Memory) (r : Result Worked Refusal) : Type 0 where
+  pub asked : Asked strategy g entries values start m.reading.now m_then.reading.now m.rows.now m_then.rows.now r
+  pub same : SamePlaces m m_then
+  pub numbered : number_of (Some r) ≡ refusal_number (answer strategy g entries values start (length m.reading.now) (length m.rows.now))

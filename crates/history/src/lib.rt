@@ -3,6 +3,7 @@
 #![tactic(auto)]
 
 pub mod compare;
+pub mod memory;
 pub mod opening;
 pub mod piles;
 pub mod run;

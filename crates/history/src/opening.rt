@@ -4,9 +4,11 @@ ghost use Rattle.rdf.specs.Triples.{no_triple};
 ghost use Rattle.graph.specs.Histories.{make_of};
 ghost use Rattle.history.specs.declared.step.Step.{Step};
 ghost use Rattle.history.specs.Courses.{Course, account_of, emptied, history_of, joined, laid_over, listed, opened, sealed, since};
+ghost use Rattle.history.specs.Memories.{SamePlaces};
 ghost use Rattle.history.specs.Replies.{Leaves, reading_since, rows_since};
 ghost use Rattle.history.specs.Runs.{Ran};
 
+use crate::memory::Memory;
 use crate::run::run;
 use crate::step::Step;
 use graph::editable_graph::EditableGraph;
@@ -16,7 +18,6 @@ use graph::sealed::Sealed;
 use graph::stored_graph::StoredGraph;
 use graph::triple_list::TripleList;
 use graph::union_graph::UnionGraph;
-use rdf::row::Row;
 use rdf::triple::Triple;
 
 // A recipe for a graph. One log has the calls for all parts: the parts come before the whole, the left part before the right.
@@ -33,15 +34,16 @@ pub trait Opening {
     ghost runs: { Self → ℕ → ℕ → List Step → Self.Made → Type 0 };
 
     // Opens the graph, carries out the calls on its parts and on it, and writes each answer beside its call.
-    fn open(self, log: &mut [Step], reading: &mut [Triple], rows: &mut [Row]) -> Self::Made
+    fn open(self, log: &mut [Step], memory: &mut Memory) -> Self::Made
         ensures calls { map (λ x. x.call) log.new ≡ map (λ x. x.call) log.old }
         ensures idle { idle self log.old log.new }
-        ensures runs { runs self (length reading.old) (length rows.old) log.new result }
+        ensures same { SamePlaces memory.old memory.new }
+        ensures runs { runs self (length memory.old.reading.now) (length memory.old.rows.now) log.new result }
         ensures account { Self.Made.Graph.triples result ≡ account_of (course self log.new) }
         ensures make { Self.Made.Graph.make result ≡ make_of (history_of (course self log.new)) }
-        ensures answers { Leaves (length reading.old) (length rows.old) (course self log.new) (Self.Made.Graph.room result) (Self.Made.Graph.full result) }
-        ensures reading { reading.new ≡ reading_since (length reading.old) (length rows.old) (course self log.new) reading.old }
-        ensures rows { rows.new ≡ rows_since (length reading.old) (length rows.old) (course self log.new) rows.old };
+        ensures answers { Leaves (length memory.old.reading.now) (length memory.old.rows.now) (course self log.new) (Self.Made.Graph.room result) (Self.Made.Graph.full result) }
+        ensures reading { memory.new.reading.now ≡ reading_since (length memory.old.reading.now) (length memory.old.rows.now) (course self log.new) memory.old.reading.now }
+        ensures rows { memory.new.rows.now ≡ rows_since (length memory.old.reading.now) (length memory.old.rows.now) (course self log.new) memory.old.rows.now };
 }
 
 // A list of entries. It takes no calls.
@@ -59,7 +61,7 @@ impl<'a> Opening for Listed<'a> {
 
     ghost runs = { λ o i j l g. g.entries.now ≡ o.entries.now };
 
-    fn open(self, log: &mut [Step], reading: &mut [Triple], rows: &mut [Row]) -> TripleList<'a> {
+    fn open(self, log: &mut [Step], memory: &mut Memory) -> TripleList<'a> {
         TripleList::new(self.entries)
     }
 }
@@ -79,7 +81,7 @@ impl<'a> Opening for Stored<'a> {
 
     ghost runs = { λ o i j l g. (g.list.places.ghost_name ≡ o.places.ghost_name) × (g.list.places.now ≡ replicate (length o.places.now) no_triple) };
 
-    fn open(self, log: &mut [Step], reading: &mut [Triple], rows: &mut [Row]) -> StoredGraph<'a> {
+    fn open(self, log: &mut [Step], memory: &mut Memory) -> StoredGraph<'a> {
         let places = self.places;
         StoredGraph::new(places)
     }
@@ -100,7 +102,7 @@ impl<G: Graph + Drop> Opening for Ready<G> {
 
     ghost runs = { λ o i j l g. g ≡ o.graph };
 
-    fn open(self, log: &mut [Step], reading: &mut [Triple], rows: &mut [Row]) -> G {
+    fn open(self, log: &mut [Step], memory: &mut Memory) -> G {
         self.graph
     }
 }
@@ -120,8 +122,8 @@ impl<O: Opening> Opening for Shut<O> {
 
     ghost runs = { λ o i j l g. O.Opening.runs o.opening i j l g.graph };
 
-    fn open(self, log: &mut [Step], reading: &mut [Triple], rows: &mut [Row]) -> Sealed<O::Made> {
-        Sealed::new(self.opening.open(log, reading, rows))
+    fn open(self, log: &mut [Step], memory: &mut Memory) -> Sealed<O::Made> {
+        Sealed::new(self.opening.open(log, memory))
     }
 }
 
@@ -140,8 +142,8 @@ impl<O: Opening> Opening for LaidOver<O> {
 
     ghost runs = { λ o i j l g. O.Opening.runs o.beneath i j l g.base × (g.marks ≡ []) };
 
-    fn open(self, log: &mut [Step], reading: &mut [Triple], rows: &mut [Row]) -> Overlay<O::Made> {
-        Overlay::new(self.beneath.open(log, reading, rows))
+    fn open(self, log: &mut [Step], memory: &mut Memory) -> Overlay<O::Made> {
+        Overlay::new(self.beneath.open(log, memory))
     }
 }
 
@@ -162,15 +164,10 @@ impl<A: Opening, B: Opening> Opening for Joined<A, B> {
 
     ghost runs = { λ o i j l g. A.Opening.runs o.left i j (take o.split l) g.left × B.Opening.runs o.right i j (drop o.split l) g.right };
 
-    fn open(
-        self,
-        log: &mut [Step],
-        reading: &mut [Triple],
-        rows: &mut [Row],
-    ) -> UnionGraph<A::Made, B::Made> {
+    fn open(self, log: &mut [Step], memory: &mut Memory) -> UnionGraph<A::Made, B::Made> {
         let split = self.split.min(log.len());
-        let left = self.left.open(&mut log[..split], reading, rows);
-        let right = self.right.open(&mut log[split..], reading, rows);
+        let left = self.left.open(&mut log[..split], memory);
+        let right = self.right.open(&mut log[split..], memory);
         UnionGraph::new(left, right)
     }
 }
@@ -194,10 +191,10 @@ where
 
     ghost runs = { λ o i j l g. (k : O.Made) × O.Opening.runs o.opening i j (take o.split l) k × Ran O.Made.make O.Made.triples O.Made.room O.Made.full O.Made.frame O.Made.unaltered i j k (drop o.split l) g };
 
-    fn open(self, log: &mut [Step], reading: &mut [Triple], rows: &mut [Row]) -> O::Made {
+    fn open(self, log: &mut [Step], memory: &mut Memory) -> O::Made {
         let split = self.split.min(log.len());
-        let mut graph = self.opening.open(&mut log[..split], reading, rows);
-        run(&mut graph, &mut log[split..], reading, rows);
+        let mut graph = self.opening.open(&mut log[..split], memory);
+        run(&mut graph, &mut log[split..], memory);
         graph
     }
 }

@@ -7,7 +7,8 @@ ghost use Rattle.history.specs.Courses.{account_of, emptied, since};
 ghost use Rattle.history.specs.Outcomes.{Logged, Outcome};
 ghost use Rattle.history.specs.Piles.{layer, layers};
 
-use crate::compare::{agree, compare};
+use crate::compare::{Answers, agree, compare};
+use crate::memory::Memory;
 use crate::opening::{Called, Joined, LaidOver, Listed, Opening};
 use crate::run::run;
 use crate::step::Step;
@@ -15,13 +16,8 @@ use graph::editable_graph::EditableGraph;
 use graph::graph::Graph;
 use graph::stored_graph::StoredGraph;
 use query::table::Query;
-use rdf::refusal::Refusal;
 use rdf::row::Row;
 use rdf::triple::Triple;
-use semantics::worked::Worked;
-
-// What a question answers top down, and bottom up.
-type Answers = (Result<Worked, Refusal>, Result<Worked, Refusal>);
 
 // A list beneath an overlay that takes calls is joined with another list, beneath an overlay that takes calls in its turn. It is compared
 // with a third list beneath an overlay that takes calls.
@@ -30,23 +26,19 @@ pub fn compare_layers<'a>(
     others: &'a [Triple],
     split: usize,
     log: &mut [Step],
-    log_reading: &mut [Triple],
-    log_rows: &mut [Row],
-    left_reading: &mut [Triple],
-    left_rows: &mut [Row],
+    log_memory: &mut Memory,
+    left_memory: &mut Memory,
     right: &'a [Triple],
     right_log: &mut [Step],
-    right_log_reading: &mut [Triple],
-    right_log_rows: &mut [Row],
-    right_reading: &mut [Triple],
-    right_rows: &mut [Row],
+    right_log_memory: &mut Memory,
+    right_memory: &mut Memory,
     query: &Query,
     start: &Row,
 ) -> Answers
-    ensures logs { (Logged (layers entries.now others.now split log.new) log.old log.new log_reading.old log_reading.new log_rows.old log_rows.new) × (Logged (layer right.now right_log.new) right_log.old right_log.new right_log_reading.old right_log_reading.new right_log_rows.old right_log_rows.new) }
-    ensures left { Outcome TopDown (account_of (layers entries.now others.now split log.new)) query.now.entries.now query.now.values.now start.now left_reading.old left_reading.new left_rows.old left_rows.new result.0 }
-    ensures right { Outcome BottomUp (account_of (layer right.now right_log.new)) query.now.entries.now query.now.values.now start.now right_reading.old right_reading.new right_rows.old right_rows.new result.1 }
-    ensures promise { account_of (layers entries.now others.now split log.new) ≡ account_of (layer right.now right_log.new) → length left_reading.old ≡ length right_reading.old → length left_rows.old ≡ length right_rows.old → Promise (account_of (layers entries.now others.now split log.new)) query.now.entries.now query.now.values.now start.now (length left_reading.old) (length left_rows.old) result.0 result.1 left_rows.new right_rows.new }
+    ensures logs { (Logged (layers entries.now others.now split log.new) log.old log.new log_memory.old log_memory.new) × (Logged (layer right.now right_log.new) right_log.old right_log.new right_log_memory.old right_log_memory.new) }
+    ensures left { Outcome TopDown (account_of (layers entries.now others.now split log.new)) query.now.entries.now query.now.values.now start.now left_memory.old left_memory.new result.top_down }
+    ensures right { Outcome BottomUp (account_of (layer right.now right_log.new)) query.now.entries.now query.now.values.now start.now right_memory.old right_memory.new result.bottom_up }
+    ensures promise { account_of (layers entries.now others.now split log.new) ≡ account_of (layer right.now right_log.new) → length left_memory.old.reading.now ≡ length right_memory.old.reading.now → length left_memory.old.rows.now ≡ length right_memory.old.rows.now → Promise (account_of (layers entries.now others.now split log.new)) query.now.entries.now query.now.values.now start.now (length left_memory.old.reading.now) (length left_memory.old.rows.now) result.top_down result.bottom_up left_memory.new.rows.now right_memory.new.rows.now }
 {
     let under = Called {
         opening: LaidOver {
@@ -73,16 +65,12 @@ pub fn compare_layers<'a>(
     compare(
         pile,
         log,
-        log_reading,
-        log_rows,
-        left_reading,
-        left_rows,
+        log_memory,
+        left_memory,
         other,
         right_log,
-        right_log_reading,
-        right_log_rows,
-        right_reading,
-        right_rows,
+        right_log_memory,
+        right_memory,
         query,
         start,
     )
@@ -92,37 +80,24 @@ pub fn compare_layers<'a>(
 fn agree_and_give_back<'a, R: Graph>(
     places: &'a mut [Triple],
     log: &mut [Step],
-    log_reading: &mut [Triple],
-    log_rows: &mut [Row],
-    left_reading: &mut [Triple],
-    left_rows: &mut [Row],
+    log_memory: &mut Memory,
+    left_memory: &mut Memory,
     right: &R,
-    right_reading: &mut [Triple],
-    right_rows: &mut [Row],
+    right_memory: &mut Memory,
     query: &Query,
     start: &Row,
-    answers: &mut Answers,
-) -> &'a mut [Triple]
-    ensures same { result.ghost_name ≡ places.entry.ghost_name }
-    ensures places { result.now ≡ then_empty (account_of (since (emptied (length places.old)) log.new)) (length places.old) }
-    ensures log { Logged (since (emptied (length places.old)) log.new) log.old log.new log_reading.old log_reading.new log_rows.old log_rows.new }
-    ensures left { Outcome TopDown (account_of (since (emptied (length places.old)) log.new)) query.now.entries.now query.now.values.now start.now left_reading.old left_reading.new left_rows.old left_rows.new answers.new.0 }
-    ensures right { Outcome BottomUp (R.Graph.triples right.now) query.now.entries.now query.now.values.now start.now right_reading.old right_reading.new right_rows.old right_rows.new answers.new.1 }
-    ensures promise { account_of (since (emptied (length places.old)) log.new) ≡ R.Graph.triples right.now → length left_reading.old ≡ length right_reading.old → length left_rows.old ≡ length right_rows.old → Promise (account_of (since (emptied (length places.old)) log.new)) query.now.entries.now query.now.values.now start.now (length left_reading.old) (length left_rows.old) answers.new.0 answers.new.1 left_rows.new right_rows.new }
+) -> (&'a mut [Triple], Answers)
+    ensures same { result.0.ghost_name ≡ places.entry.ghost_name }
+    ensures places { result.0.now ≡ then_empty (account_of (since (emptied (length places.old)) log.new)) (length places.old) }
+    ensures log { Logged (since (emptied (length places.old)) log.new) log.old log.new log_memory.old log_memory.new }
+    ensures left { Outcome TopDown (account_of (since (emptied (length places.old)) log.new)) query.now.entries.now query.now.values.now start.now left_memory.old left_memory.new result.1.top_down }
+    ensures right { Outcome BottomUp (R.Graph.triples right.now) query.now.entries.now query.now.values.now start.now right_memory.old right_memory.new result.1.bottom_up }
+    ensures promise { account_of (since (emptied (length places.old)) log.new) ≡ R.Graph.triples right.now → length left_memory.old.reading.now ≡ length right_memory.old.reading.now → length left_memory.old.rows.now ≡ length right_memory.old.rows.now → Promise (account_of (since (emptied (length places.old)) log.new)) query.now.entries.now query.now.values.now start.now (length left_memory.old.reading.now) (length left_memory.old.rows.now) result.1.top_down result.1.bottom_up left_memory.new.rows.now right_memory.new.rows.now }
 {
     let mut graph = StoredGraph::new(places);
-    run(&mut graph, log, log_reading, log_rows);
-    *answers = agree(
-        &graph,
-        left_reading,
-        left_rows,
-        right,
-        right_reading,
-        right_rows,
-        query,
-        start,
-    );
-    graph.into_places()
+    run(&mut graph, log, log_memory);
+    let answers = agree(&graph, left_memory, right, right_memory, query, start);
+    (graph.into_places(), answers)
 }
 
 // A stored graph in lent places takes the calls of a log and is compared with a graph of any make. The places then hold what the
@@ -130,36 +105,28 @@ fn agree_and_give_back<'a, R: Graph>(
 pub fn agree_in_places<R: Graph>(
     places: &mut [Triple],
     log: &mut [Step],
-    log_reading: &mut [Triple],
-    log_rows: &mut [Row],
-    left_reading: &mut [Triple],
-    left_rows: &mut [Row],
+    log_memory: &mut Memory,
+    left_memory: &mut Memory,
     right: &R,
-    right_reading: &mut [Triple],
-    right_rows: &mut [Row],
+    right_memory: &mut Memory,
     query: &Query,
     start: &Row,
 ) -> Answers
     ensures places { places.new ≡ then_empty (account_of (since (emptied (length places.old)) log.new)) (length places.old) }
-    ensures log { Logged (since (emptied (length places.old)) log.new) log.old log.new log_reading.old log_reading.new log_rows.old log_rows.new }
-    ensures left { Outcome TopDown (account_of (since (emptied (length places.old)) log.new)) query.now.entries.now query.now.values.now start.now left_reading.old left_reading.new left_rows.old left_rows.new result.0 }
-    ensures right { Outcome BottomUp (R.Graph.triples right.now) query.now.entries.now query.now.values.now start.now right_reading.old right_reading.new right_rows.old right_rows.new result.1 }
-    ensures promise { account_of (since (emptied (length places.old)) log.new) ≡ R.Graph.triples right.now → length left_reading.old ≡ length right_reading.old → length left_rows.old ≡ length right_rows.old → Promise (account_of (since (emptied (length places.old)) log.new)) query.now.entries.now query.now.values.now start.now (length left_reading.old) (length left_rows.old) result.0 result.1 left_rows.new right_rows.new }
+    ensures log { Logged (since (emptied (length places.old)) log.new) log.old log.new log_memory.old log_memory.new }
+    ensures left { Outcome TopDown (account_of (since (emptied (length places.old)) log.new)) query.now.entries.now query.now.values.now start.now left_memory.old left_memory.new result.top_down }
+    ensures right { Outcome BottomUp (R.Graph.triples right.now) query.now.entries.now query.now.values.now start.now right_memory.old right_memory.new result.bottom_up }
+    ensures promise { account_of (since (emptied (length places.old)) log.new) ≡ R.Graph.triples right.now → length left_memory.old.reading.now ≡ length right_memory.old.reading.now → length left_memory.old.rows.now ≡ length right_memory.old.rows.now → Promise (account_of (since (emptied (length places.old)) log.new)) query.now.entries.now query.now.values.now start.now (length left_memory.old.reading.now) (length left_memory.old.rows.now) result.top_down result.bottom_up left_memory.new.rows.now right_memory.new.rows.now }
 {
-    let mut answers = (Err(Refusal::TableSize), Err(Refusal::TableSize));
-    let _places = agree_and_give_back(
+    let (_places, answers) = agree_and_give_back(
         places,
         log,
-        log_reading,
-        log_rows,
-        left_reading,
-        left_rows,
+        log_memory,
+        left_memory,
         right,
-        right_reading,
-        right_rows,
+        right_memory,
         query,
         start,
-        &mut answers,
     );
     answers
 }

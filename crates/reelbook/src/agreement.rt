@@ -11,14 +11,13 @@ use crate::calls::{BEFORE, correcting_calls, delivered, handed_over, joined_call
 use crate::printing::{print_answer, print_log};
 use crate::questions::UNWEIGHED;
 use crate::wording::Words;
-use history::compare::compare;
+use history::compare::{Answers, compare};
+use history::memory::Memory;
 use history::opening::{Called, Joined, LaidOver, Listed, Opening, Stored};
 use history::step::Step;
-use query::table::{Entry, Query};
-use rdf::refusal::Refusal;
+use query::table::Query;
 use rdf::row::{EMPTY_ROW, Row};
 use rdf::triple::{NO_TRIPLE, Triple};
-use semantics::worked::Worked;
 use std::io;
 
 // How many triples the stored graph beneath the overlay has room for.
@@ -33,29 +32,34 @@ const PLACES: usize = 12;
 // Six rows for each entry of the question.
 const ROWS: usize = 42;
 
-fn holds(memory: &[Triple], triple: Triple) -> bool {
-    for place in memory {
-        if *place == triple {
-            return true;
-        }
-    }
-    false
+// The log of the calls on a graph and on its parts, and the graph's name.
+// Kept: the recipe stands beside it; tried in the struct: "a value of a type parameter that is not `Copy` beside a `&mut` that it hands back".
+#[derive(Drop)]
+struct Calls<'s, 'q> {
+    name: &'s str,
+    log: &'s mut [Step<'q>],
+}
+
+// What a question to a graph left in memory, and the graph's name.
+#[derive(Clone, Copy)]
+struct Found<'n, 'm> {
+    name: &'n str,
+    reading: &'m [Triple],
+    rows: &'m [Row],
 }
 
 // Whether one memory holds all triples of another.
 fn holds_all(memory: &[Triple], others: &[Triple]) -> bool {
-    for place in others {
-        if place.is_triple() && !holds(memory, *place) {
-            return false;
-        }
-    }
-    true
+    others
+        .iter()
+        .all(|place| !place.is_triple() || memory.contains(place))
 }
 
-// Prints the triples that one memory holds and another lacks.
-fn print_lacking(rt: &impl Print, name: &str, has: &[Triple], lacks: &[Triple]) -> io::Result<()> {
-    for place in has {
-        if place.is_triple() && !holds(lacks, *place) {
+// Prints the triples that one has read and the other has not.
+fn print_lacking(rt: &impl Print, has: &Found, lacks: &Found) -> io::Result<()> {
+    let name = has.name;
+    for place in has.reading {
+        if place.is_triple() && !lacks.reading.contains(place) {
             let words = Words(*place);
             println!(rt; "Only {name} has ({words}).")?;
         }
@@ -64,114 +68,79 @@ fn print_lacking(rt: &impl Print, name: &str, has: &[Triple], lacks: &[Triple]) 
 }
 
 // Prints whether the sets that two questions read are the same, and where not, by which triples they differ.
-fn print_sets(
-    rt: &impl Print,
-    left: &str,
-    left_reading: &[Triple],
-    right: &str,
-    right_reading: &[Triple],
-) -> io::Result<()> {
-    if holds_all(left_reading, right_reading) && holds_all(right_reading, left_reading) {
+fn print_sets(rt: &impl Print, left: &Found, right: &Found) -> io::Result<()> {
+    if holds_all(left.reading, right.reading) && holds_all(right.reading, left.reading) {
         println!(rt; "Both have come to the same triples.")
     } else {
-        print_lacking(rt, left, left_reading, right_reading)?;
-        print_lacking(rt, right, right_reading, left_reading)
+        print_lacking(rt, left, right)?;
+        print_lacking(rt, right, left)
     }
 }
-
-fn same_rows(left: &[Row], right: &[Row]) -> bool {
-    if left.len() != right.len() {
-        return false;
-    }
-    for (place, row) in left.iter().enumerate() {
-        if *row != right[place] {
-            return false;
-        }
-    }
-    true
-}
-
-// What a question answers top down, and bottom up.
-type Answers = (Result<Worked, Refusal>, Result<Worked, Refusal>);
 
 // Opens both with the calls of their logs, which put no question, and puts one to both, from the row that binds nothing. Where both come to
 // one set and the memories have the same sizes, the promise of the two ways of working is kept.
-fn ask_both<'a, A: Opening, B: Opening>(
+fn ask_both<A: Opening, B: Opening>(
     left: A,
     left_log: &mut [Step],
-    left_reading: &mut [Triple],
-    left_rows: &mut [Row],
+    left_memory: &mut Memory,
     right: B,
     right_log: &mut [Step],
-    right_reading: &mut [Triple],
-    right_rows: &mut [Row],
-    entries: &'a [Entry],
-    values: &'a [Row],
+    right_memory: &mut Memory,
+    query: &Query,
 ) -> Answers
-    ensures left { Outcome TopDown (account_of (A.Opening.course left left_log.new)) entries.now values.now empty_row left_reading.old left_reading.new left_rows.old left_rows.new result.0 }
-    ensures right { Outcome BottomUp (account_of (B.Opening.course right right_log.new)) entries.now values.now empty_row right_reading.old right_reading.new right_rows.old right_rows.new result.1 }
-    ensures promise { account_of (A.Opening.course left left_log.new) ≡ account_of (B.Opening.course right right_log.new) → length left_reading.old ≡ length right_reading.old → length left_rows.old ≡ length right_rows.old → Promise (account_of (A.Opening.course left left_log.new)) entries.now values.now empty_row (length left_reading.old) (length left_rows.old) result.0 result.1 left_rows.new right_rows.new }
+    ensures left { Outcome TopDown (account_of (A.Opening.course left left_log.new)) query.now.entries.now query.now.values.now empty_row left_memory.old left_memory.new result.top_down }
+    ensures right { Outcome BottomUp (account_of (B.Opening.course right right_log.new)) query.now.entries.now query.now.values.now empty_row right_memory.old right_memory.new result.bottom_up }
+    ensures promise { account_of (A.Opening.course left left_log.new) ≡ account_of (B.Opening.course right right_log.new) → length left_memory.old.reading.now ≡ length right_memory.old.reading.now → length left_memory.old.rows.now ≡ length right_memory.old.rows.now → Promise (account_of (A.Opening.course left left_log.new)) query.now.entries.now query.now.values.now empty_row (length left_memory.old.reading.now) (length left_memory.old.rows.now) result.top_down result.bottom_up left_memory.new.rows.now right_memory.new.rows.now }
 {
-    let query = Query { entries, values };
+    let mut left_none = Memory {
+        reading: &mut [],
+        rows: &mut [],
+    };
+    let mut right_none = Memory {
+        reading: &mut [],
+        rows: &mut [],
+    };
     compare(
         left,
         left_log,
-        &mut [],
-        &mut [],
-        left_reading,
-        left_rows,
+        &mut left_none,
+        left_memory,
         right,
         right_log,
-        &mut [],
-        &mut [],
-        right_reading,
-        right_rows,
-        &query,
+        &mut right_none,
+        right_memory,
+        query,
         &EMPTY_ROW,
     )
 }
 
-fn print_answers(
-    rt: &impl Print,
-    left: &str,
-    left_rows: &[Row],
-    right: &str,
-    right_rows: &[Row],
-    answers: Answers,
-) -> io::Result<()> {
-    println!(rt; "Reels with no weight in grams per square metre by {left}, worked top down:")?;
-    print_answer(rt, answers.0, left_rows)?;
-    println!(rt; "The same by {right}, worked bottom up:")?;
-    print_answer(rt, answers.1, right_rows)?;
-    if same_rows(left_rows, right_rows) {
+fn print_answers(rt: &impl Print, left: &Found, right: &Found, answers: Answers) -> io::Result<()> {
+    let name = left.name;
+    println!(rt; "Reels with no weight in grams per square metre by {name}, worked top down:")?;
+    print_answer(rt, answers.top_down, left.rows)?;
+    let name = right.name;
+    println!(rt; "The same by {name}, worked bottom up:")?;
+    print_answer(rt, answers.bottom_up, right.rows)?;
+    if left.rows == right.rows {
         println!(rt; "The two lists agree.")
     } else {
         println!(rt; "The two lists differ.")
     }
 }
 
-fn print_logs(
-    rt: &impl Print,
-    left: &str,
-    left_log: &[Step],
-    right: &str,
-    right_log: &[Step],
-) -> io::Result<()> {
-    println!(rt; "Calls on {left}:")?;
-    print_log(rt, left_log)?;
-    println!(rt; "Calls on {right}:")?;
-    print_log(rt, right_log)
+fn print_calls(rt: &impl Print, calls: &Calls) -> io::Result<()> {
+    let name = calls.name;
+    println!(rt; "Calls on {name}:")?;
+    print_log(rt, calls.log)
 }
 
 // Puts the question for reels with no weight in grams per square metre to both, and prints the calls, the answers and where they differ.
 fn put_to_both<A: Opening, B: Opening>(
     rt: &impl Print,
-    left_name: &str,
     left: A,
-    left_log: &mut [Step],
-    right_name: &str,
+    left_calls: &mut Calls,
     right: B,
-    right_log: &mut [Step],
+    right_calls: &mut Calls,
 ) -> io::Result<()> {
     let mut left_reading = [NO_TRIPLE; PLACES];
     let mut left_rows = [EMPTY_ROW; ROWS];
@@ -179,28 +148,44 @@ fn put_to_both<A: Opening, B: Opening>(
     let mut right_rows = [EMPTY_ROW; ROWS];
     let answers = ask_both(
         left,
-        left_log,
-        &mut left_reading,
-        &mut left_rows,
+        left_calls.log,
+        &mut Memory {
+            reading: &mut left_reading,
+            rows: &mut left_rows,
+        },
         right,
-        right_log,
-        &mut right_reading,
-        &mut right_rows,
-        &UNWEIGHED,
-        &[],
+        right_calls.log,
+        &mut Memory {
+            reading: &mut right_reading,
+            rows: &mut right_rows,
+        },
+        &Query {
+            entries: &UNWEIGHED,
+            values: &[],
+        },
     );
-    print_logs(rt, left_name, left_log, right_name, right_log)?;
-    print_sets(rt, left_name, &left_reading, right_name, &right_reading)?;
-    print_answers(rt, left_name, &left_rows, right_name, &right_rows, answers)
+    let left = Found {
+        name: left_calls.name,
+        reading: &left_reading,
+        rows: &left_rows,
+    };
+    let right = Found {
+        name: right_calls.name,
+        reading: &right_reading,
+        rows: &right_rows,
+    };
+    print_calls(rt, left_calls)?;
+    print_calls(rt, right_calls)?;
+    print_sets(rt, &left, &right)?;
+    print_answers(rt, &left, &right, answers)
 }
 
 // A stored graph with calls on it beneath an overlay with calls on it, and any other graph.
 fn layered_and_other<B: Opening>(
     rt: &impl Print,
     places: &mut [Triple],
-    name: &str,
     other: B,
-    log: &mut [Step],
+    calls: &mut Calls,
 ) -> io::Result<()> {
     let stored = Called {
         opening: Stored { places },
@@ -210,16 +195,12 @@ fn layered_and_other<B: Opening>(
         opening: LaidOver { beneath: stored },
         split: BEFORE,
     };
-    let mut calls = layered_calls();
-    put_to_both(
-        rt,
-        "the floor's book under the office's sheet",
-        layered,
-        &mut calls,
-        name,
-        other,
-        log,
-    )
+    let mut log = layered_calls();
+    let mut under = Calls {
+        name: "the floor's book under the office's sheet",
+        log: &mut log,
+    };
+    put_to_both(rt, layered, &mut under, other, calls)
 }
 
 // With a list joined with a stored graph on which calls were made.
@@ -238,14 +219,12 @@ fn with_joined(
         right: stored,
         split: 0,
     };
-    let mut calls = joined_calls();
-    layered_and_other(
-        rt,
-        places,
-        "the winder's list joined with the laboratory's book",
-        joined,
-        &mut calls,
-    )
+    let mut log = joined_calls();
+    let mut calls = Calls {
+        name: "the winder's list joined with the laboratory's book",
+        log: &mut log,
+    };
+    layered_and_other(rt, places, joined, &mut calls)
 }
 
 // With a list beneath an overlay on which calls were made.
@@ -256,21 +235,17 @@ fn with_corrected(rt: &impl Print, places: &mut [Triple], entries: &[Triple]) ->
         },
         split: 0,
     };
-    let mut calls = correcting_calls();
-    layered_and_other(
-        rt,
-        places,
-        "the gauge's list under the laboratory's sheet",
-        corrected,
-        &mut calls,
-    )
+    let mut log = correcting_calls();
+    let mut calls = Calls {
+        name: "the gauge's list under the laboratory's sheet",
+        log: &mut log,
+    };
+    layered_and_other(rt, places, corrected, &mut calls)
 }
 
 pub(crate) fn compare_makes(rt: &impl Print) -> io::Result<()> {
     let mut places = [NO_TRIPLE; LAYERED];
     let mut others = [NO_TRIPLE; JOINED];
-    let list = delivered();
-    with_joined(rt, &mut places, &list, &mut others)?;
-    let list = handed_over();
-    with_corrected(rt, &mut places, &list)
+    with_joined(rt, &mut places, &delivered(), &mut others)?;
+    with_corrected(rt, &mut places, &handed_over())
 }

@@ -4,4 +4,4 @@ use Rattle.history.proofs.compare.agree.Goals as goal
 pub returns-clause-promise : goal.returns-clause-promise
 returns-clause-promise g c =
     let q = c.args.query.now in
-    promised q.entries.now q.values.now c.args.start.now _ _ _ _ _ _ _ _ _ _ _ _ (g.L.Graph.lawful c.args.left.now).members c.top_down-down.ensures c.bottom_up-up.ensures
+    promised q.entries.now q.values.now c.args.start.now _ _ _ _ _ _ _ _ _ _ _ _ (g.L.Graph.lawful c.args.left.now).members c.top_down.ensures c.bottom_up.ensures

@@ -12,34 +12,36 @@ use Rattle.history.proofs.piles.agree_and_give_back.Goals as goal
 
 pub returns : goal.returns
 returns g c =
-    let n = length c.args.places.now in
-    let before = emptied n in
+    let size = length c.args.places.now in
+    let before = emptied size in
     let new = c.new-graph.ensures in
     let graph = c.new-graph.result in
     let ran = c.run.ensures in
     let end = c.run.new.graph in
-    let told = c.agree.ensures in
-    let done = c.agree.new in
-    let m = c.args.left_reading.now in
-    let w = c.args.left_rows.now in
+    let told = c.agree-answers.ensures in
+    let done = c.agree-answers.new in
+    let m = c.args.left_memory.now in
+    let n = c.args.right_memory.now in
     let q = c.args.query.now in
     let start = c.args.start.now in
-    let size : length end.list.places.now ≡ n = ran.framed.1 ∙ ap length new.empty ∙ length-replicate n no_triple in
-    let set = sym (ran.account before new.history) in
+    let kept : length end.list.places.now ≡ size = ran.framed.1 ∙ ap length new.empty ∙ length-replicate size no_triple in
+    let on = ran.course before new.history in
+    let set = sym on.account in
     let ruled = subst₂ (λ k s. Ruled k s (meaning.room graph) (meaning.full graph)) (sym new.make) (sym new.history) (meaning.ruled graph) in
     record {
       same = c.into_places.ensures.same ∙ ran.framed.0 ∙ new.same;
-      places = c.into_places.ensures.places ∙ ap₂ then_empty set size;
+      places = c.into_places.ensures.places ∙ ap₂ then_empty set kept;
       log = record {
         calls = ran.calls;
-        answers = (meaning.room end, meaning.full end, ran.answers before new.history new.make ruled);
-        reading = sym (ran.reading before _ new.history refl);
-        rows = sym (ran.rows before _ new.history refl);
+        answers = (meaning.room end, meaning.full end, on.answers new.make ruled);
+        same = ran.same;
+        reading = sym (on.reading _ refl);
+        rows = sym (on.rows _ refl);
       };
-      left = subst (λ s. Outcome TopDown s q.entries.now q.values.now start m done.left_reading w done.left_rows c.agree.result.0) set told.left;
+      left = subst (λ s. Outcome TopDown s q.entries.now q.values.now start m done.left_memory c.agree-answers.result.top_down) set told.left;
       right = told.right;
       promise =
           subst
-          (λ s. s ≡ g.R.Graph.triples c.args.right.now → length m ≡ length c.args.right_reading.now → length w ≡ length c.args.right_rows.now → Promise s q.entries.now q.values.now start (length m) (length w) c.agree.result.0 c.agree.result.1 done.left_rows done.right_rows)
+          (λ s. s ≡ g.R.Graph.triples c.args.right.now → length m.reading.now ≡ length n.reading.now → length m.rows.now ≡ length n.rows.now → Promise s q.entries.now q.values.now start (length m.reading.now) (length m.rows.now) c.agree-answers.result.top_down c.agree-answers.result.bottom_up done.left_memory.rows.now done.right_memory.rows.now)
           set told.promise;
     }

@@ -16,18 +16,19 @@ returns c =
     let split = c.args.split in
     let q = c.args.query.now in
     let start = c.args.start.now in
+    let m = c.args.left_memory.now in
     let other = layer c.args.right.now end.right_log in
     let course : List Step → Course = λ l. since (laid_over (joined (layer c.args.entries.now l) (listed c.args.others.now))) (drop split log) in
     let once : course (take split (take split log)) ≡ layers c.args.entries.now c.args.others.now split log = ap course (take-take split split log (omega arith)) in
     record {
       logs = (
-        subst (λ x. Logged x c.args.log.now log c.args.log_reading.now end.left_log_reading c.args.log_rows.now end.left_log_rows) once told.logs.0,
+        subst (λ x. Logged x c.args.log.now log c.args.log_memory.now end.left_log_memory) once told.logs.0,
         told.logs.1,
       );
-      left = subst (λ x. Outcome TopDown (account_of x) q.entries.now q.values.now start c.args.left_reading.now end.left_reading c.args.left_rows.now end.left_rows c.compare.result.0) once told.left;
+      left = subst (λ x. Outcome TopDown (account_of x) q.entries.now q.values.now start m end.left_memory c.compare.result.top_down) once told.left;
       right = told.right;
       promise =
           subst
-          (λ x. account_of x ≡ account_of other → length c.args.left_reading.now ≡ length c.args.right_reading.now → length c.args.left_rows.now ≡ length c.args.right_rows.now → Promise (account_of x) q.entries.now q.values.now start (length c.args.left_reading.now) (length c.args.left_rows.now) c.compare.result.0 c.compare.result.1 end.left_rows end.right_rows)
+          (λ x. account_of x ≡ account_of other → length m.reading.now ≡ length c.args.right_memory.now.reading.now → length m.rows.now ≡ length c.args.right_memory.now.rows.now → Promise (account_of x) q.entries.now q.values.now start (length m.reading.now) (length m.rows.now) c.compare.result.top_down c.compare.result.bottom_up end.left_memory.rows.now end.right_memory.rows.now)
           once told.promise;
     }

@@ -1,7 +1,8 @@
-use Rattle.std.proofs.Common.{◌≡◌, List, length, sym, refl, ap, ◌∙◌, subst, ap₂, subst₂}
+use Rattle.std.proofs.Common.{List, length, sym, refl, ap, ◌∙◌, subst, ap₂, subst₂}
 use Rattle.history.specs.declared.step.Step.{Step}
 use Rattle.history.specs.Courses.{Course, account_of, history_of, joined}
 use Rattle.history.specs.Replies.{Truthful, reading_since, rows_since}
+use Rattle.history.proofs.MemoryLaws.{same_on}
 use Rattle.history.proofs.LogLaws.{in_parts}
 use Rattle.history.proofs.opening.JoinedOpening.open.Goals as goal
 
@@ -14,10 +15,11 @@ returns g c =
     let two = c.open-right.ensures in
     let left : List Step → Course = g.A.Opening.course c.args.self.left in
     let right : List Step → Course = g.B.Opening.course c.args.self.right in
-    let m = c.args.reading.now in
-    let w = c.args.rows.now in
-    let same-reading : length c.open-left.new.reading ≡ length m = c.open-left.auto.reading in
-    let same_rows : length c.open-left.new.rows ≡ length w = c.open-left.auto.rows in
+    let m = c.args.memory.now.reading.now in
+    let w = c.args.memory.now.rows.now in
+    let between = c.open-left.new.memory in
+    let same-reading = one.same.reading_size in
+    let same_rows = one.same.row_size in
     let i = length m in
     let j = length w in
     let answered : Truthful i j (right second) =
@@ -29,6 +31,7 @@ returns g c =
         subst₂ (g.A.Opening.idle c.args.self.left) parts.front_before parts.front one.idle,
         subst₂ (g.B.Opening.idle c.args.self.right) parts.back_before parts.back two.idle,
       );
+      same = same_on _ _ _ one.same two.same;
       runs = (
         subst₂ (g.A.Opening.runs c.args.self.left i j) parts.front (sym c.new.ensures.kept.0) one.runs,
         subst₂ (g.B.Opening.runs c.args.self.right i j) parts.back (sym c.new.ensures.kept.1)
@@ -45,12 +48,12 @@ returns g c =
       );
       reading =
           two.reading
-          ∙ ap₂ (λ s t. reading_since s t (right second) c.open-left.new.reading) same-reading same_rows
+          ∙ ap₂ (λ s t. reading_since s t (right second) between.reading.now) same-reading same_rows
           ∙ ap (reading_since i j (right second)) one.reading
           ∙ ap₂ (λ (a b : List Step). reading_since i j (joined (left a) (right b)) m) parts.front parts.back;
       rows =
           two.rows
-          ∙ ap₂ (λ s t. rows_since s t (right second) c.open-left.new.rows) same-reading same_rows
+          ∙ ap₂ (λ s t. rows_since s t (right second) between.rows.now) same-reading same_rows
           ∙ ap (rows_since i j (right second)) one.rows
           ∙ ap₂ (λ (a b : List Step). rows_since i j (joined (left a) (right b)) w) parts.front parts.back;
     }

@@ -16,6 +16,7 @@ returns g c =
     record {
       calls = made.calls;
       idle = made.idle;
+      same = made.same;
       runs = (subst (g.O.Opening.runs c.args.self.beneath _ _ _) (sym c.new.ensures.kept) made.runs, c.new.ensures.bare);
       account = account;
       make = make;
