@@ -3,6 +3,8 @@
 // 100,000 triples, and for filling and reading in no order.
 #![tactic(auto)]
 
+ghost use Rattle.std.specs.Iterator.{IsFinite};
+
 mod mill;
 
 use engine::question::bottom_up;
@@ -13,113 +15,99 @@ use graph::stored_graph::StoredGraph;
 use graph::triple_list::TripleList;
 use mill::{joined, optional, reading_triples, unweighed, weight_triple};
 use query::table::{Entry, Query};
-use rdf::refusal::Refusal;
 use rdf::row::{EMPTY_ROW, Row};
 use rdf::triple::{NO_TRIPLE, Triple};
 use std::env;
 use std::time::Instant;
 
-// Adds the readings and weights of so many reels, in ascending order.
-fn load<G: EditableGraph>(graph: &mut G, reels: u32) {
-    for reel in 0..reels {
-        for triple in reading_triples(reel) {
-            let _ = graph.add(triple);
-        }
-    }
-    for reel in 0..reels {
-        let _ = graph.add(weight_triple(reel, reels));
+// Runs a step, and tells how many microseconds it took.
+fn timed<T: Drop, F: FnOnce() -> T>(rt: &HostRuntime, step: F) -> anyhow::Result<(T, u128)>
+    requires { F.IsAlwaysCallable step }
+{
+    let start = Instant::now(rt)?;
+    let result = step();
+    let micros = start.elapsed(rt)?.as_micros();
+    Ok((result, micros))
+}
+
+fn load<G: EditableGraph, I: Iterator<Item = Triple>>(graph: &mut G, triples: I)
+    requires can { I.can_next triples }
+    requires ends { IsFinite (I.remaining triples) }
+{
+    for triple in triples {
+        let _ = graph.add(triple);
     }
 }
 
-// The same readings and weights, in no order.
+// Loads the readings and weights of so many reels, in ascending order.
+fn load_ascending<G: EditableGraph>(graph: &mut G, reels: u32) {
+    let readings = (0..reels).flat_map(|reel| reading_triples(reel).into_iter());
+    let weights = (0..reels).map(|reel| weight_triple(reel, reels));
+    load(graph, readings.chain(weights));
+}
+
+// Loads the same readings and weights, in no order.
 fn load_scattered<G: EditableGraph>(graph: &mut G, reels: u32) {
-    for turn in 0..reels {
-        let reel = turn.wrapping_mul(7919) % reels;
-        for triple in reading_triples(reel) {
-            let _ = graph.add(triple);
-        }
-        let _ = graph.add(weight_triple(reel, reels));
-    }
+    let scattered = (0..reels).map(|turn| turn.wrapping_mul(7919) % reels.max(1));
+    let triples = scattered.flat_map(|reel| {
+        let [unit, value] = reading_triples(reel);
+        [unit, value, weight_triple(reel, reels)].into_iter()
+    });
+    load(graph, triples);
 }
 
-fn ask<'a, G: Graph>(
-    graph: &G,
-    entries: &'a [Entry],
-    values: &'a [Row],
-    reading: &mut [Triple],
-    rows: &mut [Row],
-) -> Result<(usize, usize), Refusal> {
-    let query = Query { entries, values };
-    bottom_up(graph, &query, &EMPTY_ROW, reading, rows)
-}
-
-// Puts one question and prints what it answered, and how long it took if that is wanted.
-fn measure<G: Graph>(
-    rt: &HostRuntime,
-    name: &str,
-    graph: &G,
-    entries: &[Entry],
-    reading: &mut [Triple],
-    rows: &mut [Row],
+// What questions are measured in: memory for them, and whether times are printed.
+#[derive(Drop)]
+struct Bench<'a> {
+    rt: &'a HostRuntime,
+    reading: &'a mut [Triple],
+    rows: &'a mut [Row],
     timed: bool,
-) -> anyhow::Result<()> {
-    let none = [EMPTY_ROW; 0];
-    let start = Instant::now(rt)?;
-    let answer = ask(graph, entries, &none, reading, rows);
-    let micros = start.elapsed(rt)?.as_micros();
-    match answer {
-        Ok((solutions, largest)) => println!(rt;
-            "  {name}: {solutions} solutions, largest set {largest}"
-        )?,
-        Err(refusal) => {
-            let number = refusal.number();
-            println!(rt; "  {name}: refused {number}")?;
+}
+
+impl Bench<'_> {
+    fn print_time(&self, micros: u128) -> anyhow::Result<()> {
+        if self.timed {
+            println!(self.rt; "    {micros} microseconds")?;
         }
+        Ok(())
     }
-    if timed {
-        println!(rt; "    {micros} microseconds")?;
+
+    fn read<G: Graph>(&mut self, graph: &G) -> anyhow::Result<()> {
+        let reading = &mut *self.reading;
+        let (read, micros) = timed(self.rt, || read_all(graph, reading))?;
+        if let Ok(count) = read {
+            println!(self.rt; "  read {count} triples")?;
+        }
+        self.print_time(micros)
     }
-    Ok(())
+
+    // Puts one question and prints what it answered.
+    fn ask<G: Graph>(&mut self, name: &str, graph: &G, entries: &[Entry]) -> anyhow::Result<()> {
+        let none = [EMPTY_ROW; 0];
+        let query = Query {
+            entries,
+            values: &none,
+        };
+        let reading = &mut *self.reading;
+        let rows = &mut *self.rows;
+        let (answer, micros) = timed(self.rt, || {
+            bottom_up(graph, &query, &EMPTY_ROW, reading, rows)
+        })?;
+        match answer {
+            Ok((solutions, largest)) => println!(self.rt;
+                "  {name}: {solutions} solutions, largest set {largest}"
+            )?,
+            Err(refusal) => {
+                let number = refusal.number();
+                println!(self.rt; "  {name}: refused {number}")?;
+            }
+        }
+        self.print_time(micros)
+    }
 }
 
-fn questions<G: Graph>(
-    rt: &HostRuntime,
-    graph: &G,
-    reading: &mut [Triple],
-    rows: &mut [Row],
-    timed: bool,
-) -> anyhow::Result<()> {
-    let start = Instant::now(rt)?;
-    let read = read_all(graph, reading);
-    let micros = start.elapsed(rt)?.as_micros();
-    if let Ok(count) = read {
-        println!(rt; "  read {count} triples")?;
-    }
-    if timed {
-        println!(rt; "    {micros} microseconds")?;
-    }
-    measure(
-        rt,
-        "no weight in grams",
-        graph,
-        &unweighed(),
-        reading,
-        rows,
-        timed,
-    )?;
-    measure(rt, "three-way join", graph, &joined(), reading, rows, timed)?;
-    measure(
-        rt,
-        "optional unit",
-        graph,
-        &optional(),
-        reading,
-        rows,
-        timed,
-    )
-}
-
-fn size(rt: &HostRuntime, reels: u32, timed: bool) -> anyhow::Result<()> {
+fn size(rt: &HostRuntime, reels: u32, printed: bool) -> anyhow::Result<()> {
     let heap = rt.alloc();
     let many = reels as usize;
     let triples = many.saturating_mul(3);
@@ -128,13 +116,20 @@ fn size(rt: &HostRuntime, reels: u32, timed: bool) -> anyhow::Result<()> {
     let mut rows = vec![in heap; EMPTY_ROW; many.saturating_mul(7)]?;
     println!(rt; "{triples} triples")?;
     let mut graph = StoredGraph::new(&mut places);
-    let start = Instant::now(rt)?;
-    load(&mut graph, reels);
-    let micros = start.elapsed(rt)?.as_micros();
-    if timed {
+    let (_, micros) = timed(rt, || load_ascending(&mut graph, reels))?;
+    if printed {
         println!(rt; "  loaded in {micros} microseconds")?;
     }
-    questions(rt, &graph, &mut reading, &mut rows, timed)
+    let mut bench = Bench {
+        rt,
+        reading: &mut reading,
+        rows: &mut rows,
+        timed: printed,
+    };
+    bench.read(&graph)?;
+    bench.ask("no weight in grams", &graph, &unweighed())?;
+    bench.ask("three-way join", &graph, &joined())?;
+    bench.ask("optional unit", &graph, &optional())
 }
 
 // Times what costs more than a search for each triple: filling in no order, and reading a list of entries.
@@ -145,13 +140,9 @@ fn unordered(rt: &HostRuntime, reels: u32) -> anyhow::Result<()> {
     let mut reading = vec![in heap; NO_TRIPLE; triples]?;
     println!(rt; "{triples} triples in no order")?;
     let mut graph = StoredGraph::new(&mut places);
-    let start = Instant::now(rt)?;
-    load_scattered(&mut graph, reels);
-    let filled = start.elapsed(rt)?.as_micros();
+    let (_, filled) = timed(rt, || load_scattered(&mut graph, reels))?;
     let list = TripleList::new(graph.into_places());
-    let start = Instant::now(rt)?;
-    let read = read_all(&list, &mut reading);
-    let micros = start.elapsed(rt)?.as_micros();
+    let (read, micros) = timed(rt, || read_all(&list, &mut reading))?;
     if let Ok(count) = read {
         println!(rt; "  filled in {filled} microseconds; {count} read from a list in {micros}")?;
     }
@@ -159,14 +150,15 @@ fn unordered(rt: &HostRuntime, reels: u32) -> anyhow::Result<()> {
 }
 
 fn main(rt: HostRuntime) -> anyhow::Result<()> {
-    let timed = env::args(&rt)?.count() > 1;
+    let printed = env::args(&rt)?.count() > 1;
     size(&rt, 20, false)?;
-    if timed {
-        size(&rt, 333, true)?;
-        size(&rt, 3333, true)?;
-        size(&rt, 33333, true)?;
-        unordered(&rt, 333)?;
-        unordered(&rt, 3333)?;
+    if printed {
+        for reels in [333, 3333, 33333] {
+            size(&rt, reels, true)?;
+        }
+        for reels in [333, 3333] {
+            unordered(&rt, reels)?;
+        }
     }
     Ok(())
 }
