@@ -6,6 +6,7 @@ use rdf::refusal::Refusal;
 use rdf::row::{EMPTY_ROW, Row};
 use rdf::term::Term;
 use rdf::triple::Triple;
+use semantics::worked::Worked;
 use std::{fmt, io};
 
 // What each place of a used memory holds.
@@ -81,21 +82,18 @@ impl fmt::Display for Bindings<'_> {
 
 fn print_answer(
     rt: &impl Print,
-    answer: Result<(usize, usize), Refusal>,
+    answer: Result<Worked, Refusal>,
     rows: &[Row],
 ) -> io::Result<()> {
     match answer {
-        Ok((solutions, largest)) => {
-            print!(rt; "({solutions}, {largest})")?;
-            for row in rows.iter().take(solutions) {
+        Ok(Worked { count, largest }) => {
+            print!(rt; "({count}, {largest})")?;
+            for row in rows.iter().take(count) {
                 print!(rt; " {}", Bindings(row))?;
             }
             Ok(())
         }
-        Err(refusal) => {
-            let number = refusal.number();
-            print!(rt; "refused by {number}")
-        }
+        Err(refusal) => print!(rt; "refused by {refusal}"),
     }
 }
 

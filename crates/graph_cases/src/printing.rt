@@ -29,7 +29,7 @@ impl fmt::Display for Numbers {
 
 impl fmt::Display for Refused {
     fn fmt<W: fmt::Write>(&self, f: &mut fmt::Formatter<W>) -> fmt::Result {
-        write!(f, "refused by {}", self.0.number())
+        write!(f, "refused by {}", self.0)
     }
 }
 

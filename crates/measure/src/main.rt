@@ -17,6 +17,7 @@ use mill::{joined, optional, reading_triples, unweighed, weight_triple};
 use query::table::{Entry, Query};
 use rdf::row::{EMPTY_ROW, Row};
 use rdf::triple::{NO_TRIPLE, Triple};
+use semantics::worked::Worked;
 use std::env;
 use std::time::Instant;
 
@@ -95,13 +96,10 @@ impl Bench<'_> {
             bottom_up(graph, &query, &EMPTY_ROW, reading, rows)
         })?;
         match answer {
-            Ok((solutions, largest)) => println!(self.rt;
-                "  {name}: {solutions} solutions, largest set {largest}"
+            Ok(Worked { count, largest }) => println!(self.rt;
+                "  {name}: {count} solutions, largest set {largest}"
             )?,
-            Err(refusal) => {
-                let number = refusal.number();
-                println!(self.rt; "  {name}: refused {number}")?;
-            }
+            Err(refusal) => println!(self.rt; "  {name}: refused {refusal}")?,
         }
         self.print_time(micros)
     }

@@ -1,20 +1,13 @@
 -- Shows how a loop over the steps goes on: what is done so far is a right course and brings the account to the set so far. Assumes nothing.
-use Rattle.std.proofs.Common.{◌≡◌, ℕ, zero, suc, ◌+◌, ◌<◌, ◌≤◌, Bool, true, false, List, [], ◌∷◌, ◌++◌, length, get_or, take, set, Ok, Err, Result, sym, refl, ap, ◌∙◌, subst, append_assoc, append-nil, arith}
+use Rattle.std.proofs.Common.{◌≡◌, ℕ, zero, suc, ◌+◌, ◌<◌, ◌≤◌, List, [], ◌∷◌, ◌++◌, length, get_or, take, set, Option, Result, sym, refl, ap, ◌∙◌, subst, append_assoc, append-nil, arith}
 use Rattle.std.proofs.lemmas.List.{take_all, take_more_set}
 use Rattle.rdf.specs.declared.refusal.Refusal.{Refusal}
 use Rattle.rdf.specs.declared.triple.Triple.{Triple}
-use Rattle.graph.specs.Changes.{accepted}
 use Rattle.graph.specs.Histories.{History, account, opened, then_called}
 use Rattle.graph.specs.Makes.{Make}
-use Rattle.reelbook.specs.Requests.{Answered, Course, event_of, is_accepted, requests, since, told}
-use Rattle.reelbook.specs.declared.request.Outcome.{Outcome}
+use Rattle.reelbook.specs.Requests.{Answered, Course, event_of, requests, since}
+use Rattle.reelbook.specs.declared.request.Effect.{Effect}
 use Rattle.reelbook.specs.declared.request.Step.{Step}
-
--- what is told says whether the change was accepted
-pub told_accepted : (r : Result (Unit {0}) Refusal) (effect : Bool) → is_accepted (told r effect) ≡ accepted r
-told_accepted (Ok done) true = refl
-told_accepted (Ok done) false = refl
-told_accepted (Err refusal) effect = refl
 
 since_push : (h : History) (steps : List Step) (step : Step) → since h (steps ++ step ∷ []) ≡ then_called (since h steps) (event_of step.request step.outcome)
 since_push h [] step = refl
@@ -36,7 +29,7 @@ pub progress_none : (k : Make) (s : List Triple) (steps : List Step) → Progres
 progress_none k s steps = record { asked_same = refl; course = λ rest c. c; history = λ h e. e }
 
 module _ (k : Make) (start : List Triple) (before after : List Step) (i : ℕ) (s : List Triple) (progress : Progress k start before after i s) where
-  pub progress_more : (d : Step) (r : Outcome) (t : List Triple) → i < length after → Answered k s (record { request = (get_or after i d).request; outcome = r }) → ((h : History) → account h ≡ s → account (then_called h (event_of (get_or after i d).request r)) ≡ t) → Progress k start before (set after i (record { request = (get_or after i d).request; outcome = r })) (i + 1) t
+  pub progress_more : (d : Step) (r : Option (Result Effect Refusal)) (t : List Triple) → i < length after → Answered k s (record { request = (get_or after i d).request; outcome = r }) → ((h : History) → account h ≡ s → account (then_called h (event_of (get_or after i d).request r)) ≡ t) → Progress k start before (set after i (record { request = (get_or after i d).request; outcome = r })) (i + 1) t
   progress_more d r t lt answered history =
       let step : Step = record { request = (get_or after i d).request; outcome = r } in
       let front = take_more_set after i step lt in

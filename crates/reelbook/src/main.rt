@@ -24,7 +24,7 @@ use questions::{ask_not_at_reel, ask_unweighed};
 use rdf::row::{EMPTY_ROW, Row};
 use rdf::term::{Term, UNBOUND};
 use rdf::triple::{NO_TRIPLE, Triple};
-use request::{Outcome, Request, Step, carry_out};
+use request::{Request, Step, carry_out};
 use std::io;
 use wording::{
     GRAMS_PER_SQUARE_METRE, MOISTURE_AT_REEL, MOISTURE_BEFORE_DRYERS, PERCENT, POUNDS_PER_REAM,
@@ -51,25 +51,23 @@ pub(crate) fn triple(subject: Term, predicate: Term, object: Term) -> Triple {
     }
 }
 
-fn add(subject: Term, predicate: Term, object: Term) -> Step {
+fn step(request: Request) -> Step {
     Step {
-        request: Request::Add(triple(subject, predicate, object)),
-        outcome: Outcome::Open,
+        request,
+        outcome: None,
     }
+}
+
+fn add(subject: Term, predicate: Term, object: Term) -> Step {
+    step(Request::Add(triple(subject, predicate, object)))
 }
 
 fn remove(subject: Term, predicate: Term, object: Term) -> Step {
-    Step {
-        request: Request::Remove(triple(subject, predicate, object)),
-        outcome: Outcome::Open,
-    }
+    step(Request::Remove(triple(subject, predicate, object)))
 }
 
 fn next(subject: Term, predicate: Term, object: Term) -> Step {
-    Step {
-        request: Request::Next(triple(subject, predicate, object)),
-        outcome: Outcome::Open,
-    }
+    step(Request::Next(triple(subject, predicate, object)))
 }
 
 // What the gauge delivers. The weight of reel 21 comes in pounds per ream, and its moisture at the reel when there is no place left.

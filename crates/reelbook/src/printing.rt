@@ -1,6 +1,6 @@
 // Sets, answers to questions, and logs of calls, in print.
 use crate::questions::REEL;
-use crate::wording::{Solution, Words};
+use crate::wording::{SentBack, Solution, Words};
 use history::step::{Answer, Call, Step};
 use rdf::refusal::Refusal;
 use rdf::row::Row;
@@ -16,16 +16,10 @@ pub(crate) fn print_set(
 ) -> io::Result<()> {
     match count {
         Ok(count) => println!(rt; "  {count} triples:")?,
-        Err(refusal) => {
-            let number = refusal.number();
-            println!(rt; "  sent back, number {number}")?;
-        }
+        Err(refusal) => println!(rt; "  {}", SentBack(refusal))?,
     }
-    for place in memory {
-        if place.is_triple() {
-            let words = Words(*place);
-            println!(rt; "  {words}")?;
-        }
+    for triple in memory.iter().filter(|place| place.is_triple()) {
+        println!(rt; "  {}", Words(*triple))?;
     }
     Ok(())
 }
@@ -41,37 +35,22 @@ pub(crate) fn print_answer(
             println!(rt; "  {count} found, largest working set {largest}:")?;
             print_solutions(rt, rows)
         }
-        Err(refusal) => {
-            let number = refusal.number();
-            println!(rt; "  sent back, number {number}")
-        }
+        Err(refusal) => println!(rt; "  {}", SentBack(refusal)),
     }
 }
 
 fn print_solutions(rt: &impl Print, rows: &[Row]) -> io::Result<()> {
-    for row in rows {
-        if !row.value(REEL).is_unbound() {
-            let solution = Solution(*row);
-            println!(rt; "  {solution}")?;
-        }
+    for row in rows.iter().filter(|row| !row.value(REEL).is_unbound()) {
+        println!(rt; "  {}", Solution(*row))?;
     }
     Ok(())
 }
 
 fn print_call(rt: &impl Print, call: &Call) -> io::Result<()> {
     match *call {
-        Call::Next(after) => {
-            let words = Words(after);
-            print!(rt; "  what follows ({words}): ")
-        }
-        Call::Add(triple) => {
-            let words = Words(triple);
-            print!(rt; "  record ({words}): ")
-        }
-        Call::Remove(triple) => {
-            let words = Words(triple);
-            print!(rt; "  withdraw ({words}): ")
-        }
+        Call::Next(after) => print!(rt; "  what follows ({}): ", Words(after)),
+        Call::Add(triple) => print!(rt; "  record ({}): ", Words(triple)),
+        Call::Remove(triple) => print!(rt; "  withdraw ({}): ", Words(triple)),
         Call::Free => print!(rt; "  places free: "),
         Call::Ask(_) => print!(rt; "  a question: "),
     }
@@ -80,20 +59,14 @@ fn print_call(rt: &impl Print, call: &Call) -> io::Result<()> {
 fn print_reply(rt: &impl Print, answer: Option<Result<Answer, Refusal>>) -> io::Result<()> {
     match answer {
         None => println!(rt; "not carried out"),
-        Some(Ok(Answer::Least(Some(triple)))) => {
-            let words = Words(triple);
-            println!(rt; "({words})")
-        }
+        Some(Ok(Answer::Least(Some(triple)))) => println!(rt; "({})", Words(triple)),
         Some(Ok(Answer::Least(None))) => println!(rt; "nothing"),
         Some(Ok(Answer::Accepted)) => println!(rt; "accepted"),
         Some(Ok(Answer::Places(free))) => println!(rt; "{free}"),
         Some(Ok(Answer::Solved(Worked { count, largest }))) => {
             println!(rt; "{count} found, largest working set {largest}")
         }
-        Some(Err(refusal)) => {
-            let number = refusal.number();
-            println!(rt; "sent back, number {number}")
-        }
+        Some(Err(refusal)) => println!(rt; "{}", SentBack(refusal)),
     }
 }
 

@@ -60,20 +60,23 @@ const NOT_AT_REEL: [Entry; 3] = [
     Entry::Minus(0, 1),
 ];
 
-// Puts a table with its value rows to the graph, from the row that binds nothing.
-fn ask<'a, G: Graph>(
+// Puts a table without value rows to the graph, from the row that binds nothing.
+fn ask<G: Graph>(
     graph: &G,
-    entries: &'a [Entry],
-    values: &'a [Row],
+    entries: &[Entry],
     reading: &mut [Triple],
     rows: &mut [Row],
 ) -> Result<Worked, Refusal>
-    ensures { Asked BottomUp (G.triples graph.now) entries.now values.now empty_row reading.old reading.new rows.old rows.new result }
+    ensures { Asked BottomUp (G.triples graph.now) entries.now [] empty_row reading.old reading.new rows.old rows.new result }
 {
-    let query = Query { entries, values };
+    let query = Query {
+        entries,
+        values: &[],
+    };
     bottom_up(graph, &query, &EMPTY_ROW, reading, rows)
 }
 
+// Kept: two functions over `ask`, since each promises the answer to its question; one over the table would promise that to any table.
 // Asks for the reels with a weight that is not in grams per square metre.
 pub fn ask_unweighed<G: Graph>(
     graph: &G,
@@ -82,7 +85,7 @@ pub fn ask_unweighed<G: Graph>(
 ) -> Result<Worked, Refusal>
     ensures { Asked BottomUp (G.triples graph.now) unweighed [] empty_row reading.old reading.new rows.old rows.new result }
 {
-    ask(graph, &UNWEIGHED, &[], reading, rows)
+    ask(graph, &UNWEIGHED, reading, rows)
 }
 
 // Asks for the reels with a moisture before the dryers but none at the reel.
@@ -93,5 +96,5 @@ pub fn ask_not_at_reel<G: Graph>(
 ) -> Result<Worked, Refusal>
     ensures { Asked BottomUp (G.triples graph.now) not_at_reel [] empty_row reading.old reading.new rows.old rows.new result }
 {
-    ask(graph, &NOT_AT_REEL, &[], reading, rows)
+    ask(graph, &NOT_AT_REEL, reading, rows)
 }

@@ -1,5 +1,5 @@
 // Requests to a graph, and what they come to.
-ghost use Rattle.std.specs.Prelude.{◌≡◌};
+ghost use Rattle.std.specs.Prelude.{◌≡◌, Some};
 ghost use Rattle.graph.specs.Histories.{History, account, then_called};
 ghost use Rattle.reelbook.specs.Requests.{Course, event_of, outcome, requests, since, told as telling};
 
@@ -19,48 +19,39 @@ pub enum Request {
     Next(Triple),
 }
 
-// What comes of a request.
+// What a request comes to that is not sent back.
 #[derive(Clone, Copy)]
-pub enum Outcome {
-    // It was not carried out yet.
-    Open,
+pub enum Effect {
     // The set is changed by the one triple.
     Changed,
     // The set was so already.
     Unchanged,
     // The least triple above, or none.
     Found(Option<Triple>),
-    // It is sent back, and the set is as it was.
-    Refused(Refusal),
 }
 
-// A request with what came of it.
+// A request with what came of it once it was carried out; where it is sent back, the set is as it was.
 #[derive(Clone, Copy)]
 pub struct Step {
     pub request: Request,
-    pub outcome: Outcome,
+    pub outcome: Option<Result<Effect, Refusal>>,
 }
 
 // What is told of an answer to a change, by whether the change has an effect.
-fn told(answer: Result<(), Refusal>, effect: bool) -> Outcome
+fn told(answer: Result<(), Refusal>, effect: bool) -> Result<Effect, Refusal>
     ensures { result ≡ telling answer effect }
 {
-    match answer {
-        Ok(()) => {
-            if effect {
-                Outcome::Changed
-            } else {
-                Outcome::Unchanged
-            }
-        }
-        Err(refusal) => Outcome::Refused(refusal),
-    }
+    answer.map(|()| if effect {
+        Effect::Changed
+    } else {
+        Effect::Unchanged
+    })
 }
 
 impl Request {
-    fn carry_out<G: EditableGraph>(self, graph: &mut G) -> Outcome
+    fn carry_out<G: EditableGraph>(self, graph: &mut G) -> Result<Effect, Refusal>
         ensures outcome { result ≡ outcome (G.Graph.full graph.old) self (G.Graph.triples graph.old) }
-        ensures history { (h : History) → account h ≡ G.Graph.triples graph.old → account (then_called h (event_of self result)) ≡ G.Graph.triples graph.new }
+        ensures history { (h : History) → account h ≡ G.Graph.triples graph.old → account (then_called h (event_of self (Some result))) ≡ G.Graph.triples graph.new }
         ensures make { G.Graph.make graph.new ≡ G.Graph.make graph.old }
         ensures framed { G.frame graph.old graph.new }
     {
@@ -73,7 +64,7 @@ impl Request {
                 let held = contains(&*graph, triple);
                 told(graph.remove(triple), held)
             }
-            Request::Next(triple) => Outcome::Found(graph.next(triple)),
+            Request::Next(triple) => Ok(Effect::Found(graph.next(triple))),
         }
     }
 }
@@ -88,6 +79,6 @@ pub fn carry_out<G: EditableGraph>(graph: &mut G, steps: &mut [Step])
     ensures framed { G.frame graph.old graph.new }
 {
     for step in steps.iter_mut() {
-        step.outcome = step.request.carry_out(graph);
+        step.outcome = Some(step.request.carry_out(graph));
     }
 }

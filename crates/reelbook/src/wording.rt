@@ -1,6 +1,7 @@
 // The mill's words for what is kept and asked.
 use crate::questions::{READING, REEL};
-use crate::request::{Outcome, Request, Step};
+use crate::request::{Effect, Request, Step};
+use rdf::refusal::Refusal;
 use rdf::row::Row;
 use rdf::term::Term;
 use rdf::triple::Triple;
@@ -34,6 +35,10 @@ pub struct Solution(pub Row);
 #[derive(Clone, Copy)]
 pub struct Words(pub Triple);
 
+// A refusal in words.
+#[derive(Clone, Copy)]
+pub struct SentBack(pub Refusal);
+
 // The word that stands for a term by itself.
 fn name(term: Term) -> Option<&'static str> {
     match term {
@@ -61,8 +66,7 @@ impl fmt::Display for Word {
         } else if term.is_blank() {
             write!(f, "reading {number}")
         } else if term.is_literal() {
-            let figure = number / 4;
-            write!(f, "{figure}")
+            write!(f, "{}", number / 4)
         } else if term.is_unbound() {
             write!(f, "-")
         } else {
@@ -73,10 +77,18 @@ impl fmt::Display for Word {
 
 impl fmt::Display for Words {
     fn fmt<W: fmt::Write>(&self, f: &mut fmt::Formatter<W>) -> fmt::Result {
-        let subject = Word(self.0.subject);
-        let predicate = Word(self.0.predicate);
-        let object = Word(self.0.object);
-        write!(f, "{subject}, {predicate}, {object}")
+        let Triple {
+            subject,
+            predicate,
+            object,
+        } = self.0;
+        write!(
+            f,
+            "{}, {}, {}",
+            Word(subject),
+            Word(predicate),
+            Word(object)
+        )
     }
 }
 
@@ -91,45 +103,37 @@ impl fmt::Display for Solution {
 impl fmt::Display for Request {
     fn fmt<W: fmt::Write>(&self, f: &mut fmt::Formatter<W>) -> fmt::Result {
         match *self {
-            Request::Add(triple) => {
-                let words = Words(triple);
-                write!(f, "record ({words})")
-            }
-            Request::Remove(triple) => {
-                let words = Words(triple);
-                write!(f, "withdraw ({words})")
-            }
-            Request::Next(triple) => {
-                let words = Words(triple);
-                write!(f, "what follows ({words})")
-            }
+            Request::Add(triple) => write!(f, "record ({})", Words(triple)),
+            Request::Remove(triple) => write!(f, "withdraw ({})", Words(triple)),
+            Request::Next(triple) => write!(f, "what follows ({})", Words(triple)),
         }
     }
 }
 
-impl fmt::Display for Outcome {
+impl fmt::Display for Effect {
     fn fmt<W: fmt::Write>(&self, f: &mut fmt::Formatter<W>) -> fmt::Result {
         match *self {
-            Outcome::Open => write!(f, "to be done"),
-            Outcome::Changed => write!(f, "done"),
-            Outcome::Unchanged => write!(f, "so already"),
-            Outcome::Found(Some(triple)) => {
-                let words = Words(triple);
-                write!(f, "({words})")
-            }
-            Outcome::Found(None) => write!(f, "nothing"),
-            Outcome::Refused(refusal) => {
-                let number = refusal.number();
-                write!(f, "sent back, number {number}")
-            }
+            Effect::Changed => write!(f, "done"),
+            Effect::Unchanged => write!(f, "so already"),
+            Effect::Found(Some(triple)) => write!(f, "({})", Words(triple)),
+            Effect::Found(None) => write!(f, "nothing"),
         }
+    }
+}
+
+impl fmt::Display for SentBack {
+    fn fmt<W: fmt::Write>(&self, f: &mut fmt::Formatter<W>) -> fmt::Result {
+        write!(f, "sent back, number {}", self.0)
     }
 }
 
 impl fmt::Display for Step {
     fn fmt<W: fmt::Write>(&self, f: &mut fmt::Formatter<W>) -> fmt::Result {
-        let request = self.request;
-        let outcome = self.outcome;
-        write!(f, "{request}: {outcome}")
+        write!(f, "{}: ", self.request)?;
+        match self.outcome {
+            None => write!(f, "to be done"),
+            Some(Ok(effect)) => write!(f, "{effect}"),
+            Some(Err(refusal)) => write!(f, "{}", SentBack(refusal)),
+        }
     }
 }

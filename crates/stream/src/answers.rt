@@ -7,6 +7,7 @@ use rdf::row::Row;
 use rdf::term::Term;
 use rdf::triple::Triple;
 use semantics::strategy::Strategy;
+use semantics::worked::Worked;
 use std::io::Write;
 use std::{fmt, io};
 
@@ -102,21 +103,27 @@ fn number(strategy: Strategy) -> u8 {
     }
 }
 
+// The numbers on the line of a refused question.
+const UNANSWERED: Worked = Worked {
+    count: 0,
+    largest: 0,
+};
+
 // What a question came to and what memory then holds; after it the solutions, which stand first in row memory.
 pub(crate) fn write_answer<W: Write>(
     out: &mut W,
     strategy: Strategy,
-    answer: Result<(usize, usize), Refusal>,
+    answer: Result<Worked, Refusal>,
     reading: &[Triple],
     rows: &[Row],
 ) -> io::Result<()> {
     let code = code(&answer);
-    let (solutions, largest) = answer.unwrap_or((0, 0));
+    let Worked { count, largest } = answer.unwrap_or(UNANSWERED);
     let way = number(strategy);
     let reading = reading_sum(reading);
     let sum = row_sum(rows);
-    writeln!(out, "4 {way} {code} {solutions} {largest} {reading} {sum}")?;
-    for row in rows.iter().take(solutions) {
+    writeln!(out, "4 {way} {code} {count} {largest} {reading} {sum}")?;
+    for row in rows.iter().take(count) {
         writeln!(out, "5{}", Numbered(&row.places))?;
     }
     Ok(())

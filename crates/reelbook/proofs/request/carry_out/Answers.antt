@@ -1,5 +1,5 @@
 -- Shows that the loop over the steps keeps its progress, and that the whole course and the whole history follow from it. Assumes nothing.
-use Rattle.std.proofs.Common.{◌<◌, ◌≤◌, length, refl, ◌∙◌, subst, arith}
+use Rattle.std.proofs.Common.{◌<◌, ◌≤◌, length, Some, refl, ap, ◌∙◌, subst, arith}
 use Rattle.graph.specs.Makes.{Ruled}
 use Rattle.reelbook.proofs.Progress.{course_all, history_all, progress_more, progress_none}
 use Rattle.reelbook.proofs.request.carry_out.Goals as goal
@@ -13,9 +13,9 @@ loop-step-preserved g c =
     let within : c.loop-step.step-index < length c.loop-step.steps = omega (arith, c.loop-step.auto.steps) in
     let ruled = subst (λ k. Ruled k (g.G.Graph.triples graph) (g.G.Graph.room graph) (g.G.Graph.full graph)) c.loop-step.invariant.1 (g.G.Graph.ruled graph) in (
       progress_more _ _ _ _ _ _ c.loop-step.invariant.0 _ _ _ within
-          (g.G.Graph.room graph, (g.G.Graph.full graph, (ruled, c.carry_out-step.ensures.outcome))) c.carry_out-step.ensures.history,
-      c.carry_out-step.ensures.make ∙ c.loop-step.invariant.1,
-      g.G.EditableGraph.onward _ _ _ c.loop-step.invariant.2 c.carry_out-step.ensures.framed,
+          (g.G.Graph.room graph, (g.G.Graph.full graph, (ruled, ap Some c.carry_out.ensures.outcome))) c.carry_out.ensures.history,
+      c.carry_out.ensures.make ∙ c.loop-step.invariant.1,
+      g.G.EditableGraph.onward _ _ _ c.loop-step.invariant.2 c.carry_out.ensures.framed,
     )
 
 pub returns : goal.returns
