@@ -13,4 +13,3 @@ pub mod Wellformed
 pub mod Memory
 pub mod Promised
 pub mod Computed
-pub mod Joins
