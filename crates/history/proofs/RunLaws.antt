@@ -1,7 +1,7 @@
 -- A log of calls, one call after another: what a run comes to for the account, the make, the answers and the memories of a course.
-use Rattle.std.proofs.Common.{◌≡◌, ℕ, ◌+◌, ◌<◌, Bool, false, cond, ◌&&◌, List, [], ◌∷◌, ◌++◌, map, length, get_or, take, set, Some, Ok, Err, Result, sym, refl, ap, ◌∙◌, subst, ap₂, subst₂}
+use Rattle.std.proofs.Common.{◌≡◌, ℕ, ◌+◌, ◌<◌, ◌≤◌, Bool, false, cond, ◌&&◌, List, [], ◌∷◌, ◌++◌, map, length, get_or, take, set, Some, Ok, Err, Result, sym, refl, ap, ◌∙◌, subst, ap₂, subst₂}
 use Rattle.std.proofs.lemmas.Bool.{true≢false}
-use Rattle.std.proofs.lemmas.List.{take_more_set, map-set, set-get_or, get_or-map}
+use Rattle.std.proofs.lemmas.List.{take_all, take_more_set, map-set, set-get_or, get_or-map}
 use Rattle.rdf.specs.declared.refusal.Refusal.{Refusal}
 use Rattle.rdf.specs.declared.row.Row.{Row}
 use Rattle.rdf.specs.declared.triple.Triple.{Triple}
@@ -56,6 +56,10 @@ module _ {G : Type 0} (make : G → Make) (triples : G → List Triple) (room : 
   run_more g h k m l n log p x inside r s t e f c =
       let sized = subst₂ (λ s t. Carries make triples room full frame unaltered s t x.call h l x.answer k n) e f c in
       subst (λ xs. Run g m xs k n) (sym (take_more_set log p x inside)) (runs_push g h k m l n (take p log) x r sized)
+
+  -- once all calls are carried out, that is the run of the log
+  pub run_all : (g k : G) (m n : Memory) (log : List Step) (p : ℕ) → length log ≤ p → Run g m (take p log) k n → Run g m log k n
+  run_all g k m n log p end r = subst (λ xs. Run g m xs k n) (take_all p log end) r
 
   change_set : (c : Change) (g : G) (a : Reply) (k : G) → ChangeOf c g a k → triples k ≡ recorded (change_called c (was_accepted a)) (triples g)
   change_set c g a k x = x.applied.set ∙ ap (λ b. cond b (changed c (triples g)) (triples g)) (sym (accepted_told x.result a x.told))

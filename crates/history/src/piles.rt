@@ -77,6 +77,7 @@ pub fn compare_layers<'a>(
 }
 
 // The same as below, with the places given back.
+// Kept: tried in one function: nothing is then known of the places at the end but their number.
 fn agree_and_give_back<'a, R: Graph>(
     places: &'a mut [Triple],
     log: &mut [Step],

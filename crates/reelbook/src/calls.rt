@@ -9,6 +9,7 @@ fn step(call: Call<'static>) -> Step<'static> {
     Step { call, answer: None }
 }
 
+// Kept: like two functions of the root, whose steps hold requests: one function for both would need a trait of two methods.
 fn add(subject: Term, predicate: Term, object: Term) -> Step<'static> {
     step(Call::Add(triple(subject, predicate, object)))
 }
