@@ -2,7 +2,7 @@
 use Rattle.std.proofs.Common.{◌≡◌, ◌+◌, ◌<◌, length, drop, Ok, Err, sym, ap, ◌∙◌, arith, false-eqb}
 use Rattle.std.proofs.lemmas.List.{at_drop_more, drop_all}
 use Rattle.std.proofs.lemmas.Result.{err_from_is_err_and}
-use Rattle.stream.specs.Numerals.{read_value, with_digit}
+use Rattle.stream.specs.Numerals.{read_value}
 use Rattle.stream.proofs.Lexing.{digits_on, fault_stays, number_cut, rest_cut}
 use Rattle.stream.proofs.numbers.numeral.Goals as goal
 
