@@ -8,6 +8,7 @@ use rdf::refusal::Refusal;
 use rdf::triple::Triple;
 
 // A graph whose set can be changed by one triple at a time.
+// Kept: each kind has `add` and `remove` over one change of its own: written once in the trait, they could not promise what places then hold.
 pub trait EditableGraph: Graph {
     // What stands beside the set and is altered by no call.
     ghost frame: { Self → Self → Type 0 };

@@ -1,5 +1,5 @@
 // The marked triples of an overlay.
-ghost use Rattle.std.specs.Prelude.{◌≡◌, ◌<◌, true, false, [], if◌then◌else◌, Ok, Err};
+ghost use Rattle.std.specs.Prelude.{◌≡◌, ◌<◌, ◌≤◌, length, true, false, [], if◌then◌else◌, Ok, Err};
 ghost use Rattle.order.specs.Sets.{holds, insert, without};
 ghost use Rattle.rdf.specs.Triples.{TripleSet, compare_triples, is_triple};
 ghost use Rattle.rdf.specs.declared.refusal.Refusal.TheVariants.{NoPlace};
@@ -12,6 +12,7 @@ use rdf::triple::{NO_TRIPLE, Triple};
 use std::marker::Model;
 
 // Up to 32 triples, ascending. None can be marked twice, and nothing that is no triple.
+// Kept: no heap outside the programs, so an overlay owns an array and how many of its places are marks.
 #[derive(Drop)]
 pub(crate) struct Marks {
     places: [Triple; 32],
@@ -44,12 +45,14 @@ impl Marks {
     pub(crate) fn as_slice(&self) -> &[Triple]
         ensures marked { result.now ≡ self.now }
         ensures lawful { TripleSet self.now }
+        ensures few { length self.now ≤ 32 }
     {
         &self.places[..self.count]
     }
 
     pub(crate) fn contains(&self, triple: &Triple) -> bool
         ensures lawful { TripleSet self.now }
+        ensures few { length self.now ≤ 32 }
         ensures marked { result ≡ holds compare_triples triple.now self.now }
     {
         self.as_slice().contains(triple)
@@ -69,6 +72,7 @@ impl Marks {
         requires unmarked { holds compare_triples triple self.old ≡ false }
         ensures marks { self.new ≡ insert compare_triples triple self.old }
         ensures lawful { TripleSet self.new }
+        ensures few { length self.new ≤ 32 }
     {
         let count = self.count;
         let mut list = OrderedList::of_first(&mut self.places, count);
@@ -81,6 +85,7 @@ impl Marks {
         requires { holds compare_triples triple self.old ≡ true }
         ensures marks { self.new ≡ without compare_triples triple self.old }
         ensures lawful { TripleSet self.new }
+        ensures few { length self.new ≤ 32 }
     {
         let count = self.count;
         let mut list = OrderedList::of_first(&mut self.places, count);
@@ -94,6 +99,7 @@ impl Marks {
         ensures answer { result ≡ (if no_mark self.old triple then Err NoPlace else Ok tt) }
         ensures marks { self.new ≡ (if accepted result then turned self.old triple else self.old) }
         ensures lawful { TripleSet self.new }
+        ensures few { length self.new ≤ 32 }
     {
         if self.contains(&triple) {
             self.remove(triple);

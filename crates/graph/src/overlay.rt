@@ -1,5 +1,5 @@
 // A graph laid over another one, with the changes kept beside it.
-ghost use Rattle.std.specs.Prelude.{◌≡◌, false, not, ◌&&◌, [], find, if◌then◌else◌, refl};
+ghost use Rattle.std.specs.Prelude.{◌≡◌, ◌≤◌, length, false, not, ◌&&◌, [], find, if◌then◌else◌, refl};
 ghost use Rattle.std.proofs.Common.{◌∙◌};
 ghost use Rattle.std.specs.Ordering.{is_lt};
 ghost use Rattle.order.specs.Sets.{above, difference, holds, symmetric_difference};
@@ -25,6 +25,7 @@ pub struct Overlay<G> {
     base: G,
     marks: Marks,
     ghost lawful: { TripleSet marks },
+    ghost few: { length marks ≤ 32 },
 }
 
 impl<G: Graph> Overlay<G> {

@@ -45,7 +45,8 @@ pub fn agree<L: Graph, R: Graph>(
 // Opens two graphs of any make, each with the calls of its log on it and on its parts, and puts a question top down to the left one and
 // bottom up to the right one. The logs work in memory of their own, and the two last questions each in theirs.
 // All is told by what each graph's course comes to. Where that is one set, the promise of the two ways of working is kept.
-// Kept: tried one struct for a side: by value, a recipe "beside a `&mut` that it hands back" is refused; by `&mut`, fields lent at once are.
+// Kept: tried one struct for a side. By value the check refuses a recipe "beside a `&mut` that it hands back"; by `&mut` it knows nothing of the
+// arrays afterwards, or refuses to lend two of its fields at once.
 pub fn compare<A: Opening, B: Opening>(
     left: A,
     left_log: &mut [Step],

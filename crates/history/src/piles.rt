@@ -21,6 +21,7 @@ use rdf::triple::Triple;
 
 // A list beneath an overlay that takes calls is joined with another list, beneath an overlay that takes calls in its turn. It is compared
 // with a third list beneath an overlay that takes calls.
+// Kept: the parameters stand apart for the reason at `compare`.
 pub fn compare_layers<'a>(
     entries: &'a [Triple],
     others: &'a [Triple],
@@ -103,6 +104,7 @@ fn agree_and_give_back<'a, R: Graph>(
 
 // A stored graph in lent places takes the calls of a log and is compared with a graph of any make. The places then hold what the
 // calls came to, and empty places after it.
+// Kept: the parameters stand apart for the reason at `compare`.
 pub fn agree_in_places<R: Graph>(
     places: &mut [Triple],
     log: &mut [Step],

@@ -35,7 +35,7 @@ pub enum Call<'a> {
 }
 
 // What a call that is not refused answered.
-#[derive(Clone, Copy, PartialEq, Eq)]
+#[derive(Clone, Copy, PartialEq, Eq, Debug)]
 pub enum Answer {
     // The least triple above.
     Least(Option<Triple>),

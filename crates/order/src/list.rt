@@ -8,7 +8,8 @@ mod methods;
 
 // The first `len` of the places hold the elements, and the other places are spare. Each method keeps the elements strictly ascending
 // where they were so. Each may be called on a list whose elements are not: it ends and stays within the places.
-// Kept: the clauses depend on the order by `→`, since `of_first` takes any places and asks nothing: the type cannot say that they ascend.
+// Kept: that the elements ascend is a condition in the clauses and no invariant: `of_first` takes any places, and a public call asks nothing.
+// Kept: the places are lent by the caller, so a list is a front of them, and has its length beside it.
 #[derive(Drop)]
 pub struct OrderedList<'a, T> {
     places: &'a mut [T],
@@ -40,6 +41,7 @@ pub fn lower_bound<T: TotalOrder + Copy>(places: &[T], x: &T) -> usize
 }
 
 // Writes `blank` into every place.
+// Kept: `places.fill(blank)`, tried, asks that a copy cannot fail, which `Copy` alone does not say.
 pub fn fill<T: Copy>(places: &mut [T], blank: T)
     ensures { places.new ≡ replicate (length places.old) blank }
 {

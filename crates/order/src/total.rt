@@ -31,6 +31,7 @@ pub fn lexical<T: TotalOrder>(xs: &[T], ys: &[T]) -> Ordering
     xs.len().cmp(&ys.len())
 }
 
+// Kept: std's `Ord` does not say that only a number itself is equal to it, which the law here asks.
 impl TotalOrder for u32 {
     ghost compare = { number_order };
 

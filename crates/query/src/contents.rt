@@ -92,6 +92,7 @@ fn entry_values_fit(values: &[Row], entry: &Entry) -> bool
 }
 
 // The sum of first and count may pass the largest usize, so it is not formed before it is known to fit.
+// Kept: tried `get(first..)` and then `get(..count)`: the check does not join the two.
 fn span_fits(values: &[Row], first: usize, count: usize) -> bool
     ensures { result ≡ span_fits values.now first count }
 {

@@ -14,6 +14,7 @@ pub enum Position {
 }
 
 // An entry is a pattern or a condition, and names others by their numbers in the table.
+// Kept: an entry names others by number, as the rules give a query; boxes would need a heap.
 #[derive(Clone, Copy, PartialEq, Eq, Debug)]
 pub enum Entry {
     Triple(Position, Position, Position),

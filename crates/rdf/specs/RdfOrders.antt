@@ -1,7 +1,7 @@
 -- The orders of terms, triples and rows keep the laws. Assumes nothing.
 use Rattle.std.specs.Prelude.{◌≡◌, Bool, Decides}
 use Rattle.std.proofs.Common.{ap, sym, ◌∙◌}
-use Rattle.std.specs.Cmp.{Equal-is}
+use Rattle.std.specs.Cmp.{Equal-is, IsEquivalence, decided}
 use Rattle.std.specs.Ordering.{is_eq}
 use Rattle.order.specs.Order.{Laws}
 use Rattle.rdf.specs.Terms.{compare_terms}
@@ -32,3 +32,6 @@ pub same_row_decides : (x y : Row) → Decides (same_row x y) (x ≡ y)
 same_row_decides x y =
     let told = Equal-is (compare_rows x y) in
     (λ e. row_laws.equal x y (told.0 e), λ e. told.1 (ap (compare_rows x) (sym e) ∙ row_laws.same x))
+
+pub same_row_equivalence : IsEquivalence same_row
+same_row_equivalence = decided same_row same_row_decides

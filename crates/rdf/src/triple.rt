@@ -16,6 +16,7 @@ pub struct Triple {
 }
 
 // What an empty place of lent memory holds. It is no triple, and stands below every triple.
+// Kept: the rules say that a spare place of lent memory holds this; an `Option<Triple>` would be another memory than is lent.
 pub const NO_TRIPLE: Triple = Triple {
     subject: UNBOUND,
     predicate: UNBOUND,

@@ -79,6 +79,7 @@ fn print_sets(rt: &impl Print, left: &Found, right: &Found) -> io::Result<()> {
 
 // Opens both with the calls of their logs, which put no question, and puts one to both, from the row that binds nothing. Where both come to
 // one set and the memories have the same sizes, the promise of the two ways of working is kept.
+// Kept: the parameters stand apart for the reason at `compare` of `history`.
 fn ask_both<A: Opening, B: Opening>(
     left: A,
     left_log: &mut [Step],

@@ -9,6 +9,7 @@ use rdf::refusal::Refusal;
 use rdf::triple::Triple;
 
 // What is asked of a graph.
+// Kept: near to a call of a log in `history`, but what comes of it tells whether a change had an effect, which a log does not.
 #[derive(Clone, Copy)]
 pub enum Request {
     // To put a triple in.

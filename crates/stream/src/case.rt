@@ -6,7 +6,7 @@ use crate::fault::Cause;
 use crate::kinds::Call;
 use crate::numbers::Numbers;
 use crate::record::{Question, Record, list};
-use engine::question::{bottom_up, top_down};
+use engine::question;
 use graph::editable_graph::EditableGraph;
 use graph::graph::Graph;
 use query::table::Query;
@@ -74,19 +74,16 @@ fn put<G: Graph, W: Write>(
     desk: &mut Desk<W>,
     strategy: Strategy,
     graph: &G,
-    question: &Question,
+    asked: &Question,
 ) -> Result<(), Cause> {
-    let mut reading = vec![in desk.heap; SEVENS; question.reading]?;
-    let mut rows = vec![in desk.heap; SEVEN_ROW; question.rows]?;
+    let mut reading = vec![in desk.heap; SEVENS; asked.reading]?;
+    let mut rows = vec![in desk.heap; SEVEN_ROW; asked.rows]?;
     let query = Query {
-        entries: question.entries.as_slice(),
-        values: question.values.as_slice(),
+        entries: asked.entries.as_slice(),
+        values: asked.values.as_slice(),
     };
-    let start = &question.start;
-    let answer = match strategy {
-        Strategy::BottomUp => bottom_up(graph, &query, start, &mut reading, &mut rows),
-        Strategy::TopDown => top_down(graph, &query, start, &mut reading, &mut rows),
-    };
+    let start = &asked.start;
+    let answer = question::ask(strategy, graph, &query, start, &mut reading, &mut rows);
     write_answer(&mut desk.out, strategy, answer, &reading, &rows)?;
     Ok(())
 }

@@ -111,6 +111,7 @@ impl Record for Entry {
 }
 
 // How many, and then so many.
+// Kept: `collect` would take memory for the whole count before a record is read, and the count is only what the stream says.
 pub(crate) fn list<T: Record + Drop>(numbers: &mut Numbers, heap: Global) -> Result<Vec<T>, Cause> {
     let count = numbers.count()?;
     let mut records = Vec::new(heap);

@@ -14,6 +14,7 @@ use std::alloc::Global;
 use std::io::Write;
 
 // Takes the number of the kind that is due.
+// Kept: a number that is no kind and a kind that is not due are one fault, so a `TryFrom` would tell them apart for nothing.
 fn due<W: Write>(desk: &mut Desk<W>, kind: GraphKind) -> Result<(), Cause> {
     if desk.numbers.next()? == kind as u32 {
         Ok(())

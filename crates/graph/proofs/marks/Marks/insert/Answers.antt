@@ -2,7 +2,7 @@
 use Rattle.std.proofs.Common.{◌≡◌, ◌<◌, ◌≤◌, length, sym, ap, ◌∙◌, subst, arith}
 use Rattle.std.proofs.lemmas.List.{length-take-le}
 use Rattle.order.specs.Sets.{holds, insert}
-use Rattle.order.proofs.Ascents.{ascending_insert}
+use Rattle.order.proofs.Ascents.{ascending_insert, length_insert_le}
 use Rattle.order.proofs.Holders.{put_first}
 use Rattle.order.proofs.SetOperations.{every_insert}
 use Rattle.rdf.specs.RdfOrders.{triple_laws}
@@ -31,3 +31,7 @@ invariant_of-self c =
     let start = c.of_first-list.ensures in
     let long : length c.put-made.new.self.places.now ≡ 32 = c.put-made.ensures.size ∙ ap length start.places ∙ c.self.invariant.0 in
     (long, omega (arith, c.len-self-inside.ensures.within), returns-clause-lawful c)
+
+pub returns-clause-few : goal.returns-clause-few
+returns-clause-few c =
+    subst (λ l. length l ≤ 32) (sym (returns-clause-marks c)) (omega (arith, length_insert_le triple_laws c.args.triple c.args.self.now, c.requires.fits))

@@ -1,5 +1,6 @@
 -- Shows that a mark is taken off, and that the marks stay as they must be.
-use Rattle.std.proofs.Common.{◌≡◌, length, sym, ap, ◌∙◌, subst, arith}
+use Rattle.std.proofs.Common.{◌≡◌, length, length-take, sym, ap, ◌∙◌, subst, arith}
+use Rattle.rdf.specs.declared.triple.Triple.{Triple}
 use Rattle.order.specs.Sets.{holds, without}
 use Rattle.order.proofs.Ascents.{ascending_without}
 use Rattle.order.proofs.Holders.{take_out_first}
@@ -27,3 +28,6 @@ invariant_of-self c =
     let start = c.of_first-list.ensures in
     let long : length c.take_out-taken.new.self.places.now ≡ 32 = c.take_out-taken.ensures.size ∙ ap length start.places ∙ c.self.invariant.0 in
     (long, omega (arith, c.len-self-inside.ensures.within), returns-clause-lawful c)
+
+pub returns-clause-few : goal.returns-clause-few
+returns-clause-few c = omega (arith, invariant_of-self c, length-take {A = Triple})
