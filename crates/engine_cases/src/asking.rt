@@ -80,11 +80,7 @@ impl fmt::Display for Bindings<'_> {
     }
 }
 
-fn print_answer(
-    rt: &impl Print,
-    answer: Result<Worked, Refusal>,
-    rows: &[Row],
-) -> io::Result<()> {
+fn print_answer(rt: &impl Print, answer: Result<Worked, Refusal>, rows: &[Row]) -> io::Result<()> {
     match answer {
         Ok(Worked { count, largest }) => {
             print!(rt; "({count}, {largest})")?;
