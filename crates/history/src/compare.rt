@@ -1,9 +1,7 @@
 // One question put to two graphs of any make.
 ghost use Rattle.std.specs.Prelude.{◌≡◌, length};
-ghost use Rattle.semantics.specs.declared.strategy.Strategy.TheVariants.{BottomUp, TopDown};
-ghost use Rattle.semantics.specs.Promise.{Promise};
 ghost use Rattle.history.specs.Courses.{account_of};
-ghost use Rattle.history.specs.Outcomes.{Logged, Outcome};
+ghost use Rattle.history.specs.Outcomes.{Agreed, Logged};
 
 use crate::memory::Memory;
 use crate::opening::Opening;
@@ -32,9 +30,7 @@ pub fn agree<L: Graph, R: Graph>(
     query: &Query,
     start: &Row,
 ) -> Answers
-    ensures left { Outcome TopDown (L.Graph.triples left.now) query.now.entries.now query.now.values.now start.now left_memory.old left_memory.new result.top_down }
-    ensures right { Outcome BottomUp (R.Graph.triples right.now) query.now.entries.now query.now.values.now start.now right_memory.old right_memory.new result.bottom_up }
-    ensures promise { L.Graph.triples left.now ≡ R.Graph.triples right.now → length left_memory.old.reading.now ≡ length right_memory.old.reading.now → length left_memory.old.rows.now ≡ length right_memory.old.rows.now → Promise (L.Graph.triples left.now) query.now.entries.now query.now.values.now start.now (length left_memory.old.reading.now) (length left_memory.old.rows.now) result.top_down result.bottom_up left_memory.new.rows.now right_memory.new.rows.now }
+    ensures agreed { Agreed (L.Graph.triples left.now) (R.Graph.triples right.now) query.now.entries.now query.now.values.now start.now left_memory.old left_memory.new right_memory.old right_memory.new result }
 {
     Answers {
         top_down: top_down(left, query, start, left_memory.reading, left_memory.rows),
@@ -62,9 +58,7 @@ pub fn compare<A: Opening, B: Opening>(
     ensures logs { (Logged (A.Opening.course left left_log.new) left_log.old left_log.new left_log_memory.old left_log_memory.new) × (Logged (B.Opening.course right right_log.new) right_log.old right_log.new right_log_memory.old right_log_memory.new) }
     ensures idle { (A.Opening.idle left left_log.old left_log.new) × (B.Opening.idle right right_log.old right_log.new) }
     ensures runs { (((g : A.Made) × A.Opening.runs left (length left_log_memory.old.reading.now) (length left_log_memory.old.rows.now) left_log.new g × (A.Made.triples g ≡ account_of (A.Opening.course left left_log.new)))) × (((g : B.Made) × B.Opening.runs right (length right_log_memory.old.reading.now) (length right_log_memory.old.rows.now) right_log.new g × (B.Made.triples g ≡ account_of (B.Opening.course right right_log.new)))) }
-    ensures left { Outcome TopDown (account_of (A.Opening.course left left_log.new)) query.now.entries.now query.now.values.now start.now left_memory.old left_memory.new result.top_down }
-    ensures right { Outcome BottomUp (account_of (B.Opening.course right right_log.new)) query.now.entries.now query.now.values.now start.now right_memory.old right_memory.new result.bottom_up }
-    ensures promise { account_of (A.Opening.course left left_log.new) ≡ account_of (B.Opening.course right right_log.new) → length left_memory.old.reading.now ≡ length right_memory.old.reading.now → length left_memory.old.rows.now ≡ length right_memory.old.rows.now → Promise (account_of (A.Opening.course left left_log.new)) query.now.entries.now query.now.values.now start.now (length left_memory.old.reading.now) (length left_memory.old.rows.now) result.top_down result.bottom_up left_memory.new.rows.now right_memory.new.rows.now }
+    ensures agreed { Agreed (account_of (A.Opening.course left left_log.new)) (account_of (B.Opening.course right right_log.new)) query.now.entries.now query.now.values.now start.now left_memory.old left_memory.new right_memory.old right_memory.new result }
 {
     let left_graph = left.open(left_log, left_log_memory);
     let right_graph = right.open(right_log, right_log_memory);

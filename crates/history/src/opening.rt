@@ -166,6 +166,7 @@ impl<A: Opening, B: Opening> Opening for Joined<A, B> {
 
     fn open(self, log: &mut [Step], memory: &mut Memory) -> UnionGraph<A::Made, B::Made> {
         let split = self.split.min(log.len());
+        // Kept: tried `split_at_mut`: of the whole log at the end only the length is then known.
         let left = self.left.open(&mut log[..split], memory);
         let right = self.right.open(&mut log[split..], memory);
         UnionGraph::new(left, right)
@@ -193,6 +194,7 @@ where
 
     fn open(self, log: &mut [Step], memory: &mut Memory) -> O::Made {
         let split = self.split.min(log.len());
+        // Kept: tried `split_at_mut`, with the same outcome as in `Joined`.
         let mut graph = self.opening.open(&mut log[..split], memory);
         run(&mut graph, &mut log[split..], memory);
         graph

@@ -1,10 +1,8 @@
 // Two courses of several parts, each in one call.
 ghost use Rattle.std.specs.Prelude.{◌≡◌, length};
 ghost use Rattle.graph.specs.Reading.{then_empty};
-ghost use Rattle.semantics.specs.declared.strategy.Strategy.TheVariants.{BottomUp, TopDown};
-ghost use Rattle.semantics.specs.Promise.{Promise};
 ghost use Rattle.history.specs.Courses.{account_of, emptied, since};
-ghost use Rattle.history.specs.Outcomes.{Logged, Outcome};
+ghost use Rattle.history.specs.Outcomes.{Agreed, Logged};
 ghost use Rattle.history.specs.Piles.{layer, layers};
 
 use crate::compare::{Answers, agree, compare};
@@ -37,9 +35,7 @@ pub fn compare_layers<'a>(
     start: &Row,
 ) -> Answers
     ensures logs { (Logged (layers entries.now others.now split log.new) log.old log.new log_memory.old log_memory.new) × (Logged (layer right.now right_log.new) right_log.old right_log.new right_log_memory.old right_log_memory.new) }
-    ensures left { Outcome TopDown (account_of (layers entries.now others.now split log.new)) query.now.entries.now query.now.values.now start.now left_memory.old left_memory.new result.top_down }
-    ensures right { Outcome BottomUp (account_of (layer right.now right_log.new)) query.now.entries.now query.now.values.now start.now right_memory.old right_memory.new result.bottom_up }
-    ensures promise { account_of (layers entries.now others.now split log.new) ≡ account_of (layer right.now right_log.new) → length left_memory.old.reading.now ≡ length right_memory.old.reading.now → length left_memory.old.rows.now ≡ length right_memory.old.rows.now → Promise (account_of (layers entries.now others.now split log.new)) query.now.entries.now query.now.values.now start.now (length left_memory.old.reading.now) (length left_memory.old.rows.now) result.top_down result.bottom_up left_memory.new.rows.now right_memory.new.rows.now }
+    ensures agreed { Agreed (account_of (layers entries.now others.now split log.new)) (account_of (layer right.now right_log.new)) query.now.entries.now query.now.values.now start.now left_memory.old left_memory.new right_memory.old right_memory.new result }
 {
     let under = Called {
         opening: LaidOver {
@@ -92,9 +88,7 @@ fn agree_and_give_back<'a, R: Graph>(
     ensures same { result.0.ghost_name ≡ places.entry.ghost_name }
     ensures places { result.0.now ≡ then_empty (account_of (since (emptied (length places.old)) log.new)) (length places.old) }
     ensures log { Logged (since (emptied (length places.old)) log.new) log.old log.new log_memory.old log_memory.new }
-    ensures left { Outcome TopDown (account_of (since (emptied (length places.old)) log.new)) query.now.entries.now query.now.values.now start.now left_memory.old left_memory.new result.1.top_down }
-    ensures right { Outcome BottomUp (R.Graph.triples right.now) query.now.entries.now query.now.values.now start.now right_memory.old right_memory.new result.1.bottom_up }
-    ensures promise { account_of (since (emptied (length places.old)) log.new) ≡ R.Graph.triples right.now → length left_memory.old.reading.now ≡ length right_memory.old.reading.now → length left_memory.old.rows.now ≡ length right_memory.old.rows.now → Promise (account_of (since (emptied (length places.old)) log.new)) query.now.entries.now query.now.values.now start.now (length left_memory.old.reading.now) (length left_memory.old.rows.now) result.1.top_down result.1.bottom_up left_memory.new.rows.now right_memory.new.rows.now }
+    ensures agreed { Agreed (account_of (since (emptied (length places.old)) log.new)) (R.Graph.triples right.now) query.now.entries.now query.now.values.now start.now left_memory.old left_memory.new right_memory.old right_memory.new result.1 }
 {
     let mut graph = StoredGraph::new(places);
     run(&mut graph, log, log_memory);
@@ -117,9 +111,7 @@ pub fn agree_in_places<R: Graph>(
 ) -> Answers
     ensures places { places.new ≡ then_empty (account_of (since (emptied (length places.old)) log.new)) (length places.old) }
     ensures log { Logged (since (emptied (length places.old)) log.new) log.old log.new log_memory.old log_memory.new }
-    ensures left { Outcome TopDown (account_of (since (emptied (length places.old)) log.new)) query.now.entries.now query.now.values.now start.now left_memory.old left_memory.new result.top_down }
-    ensures right { Outcome BottomUp (R.Graph.triples right.now) query.now.entries.now query.now.values.now start.now right_memory.old right_memory.new result.bottom_up }
-    ensures promise { account_of (since (emptied (length places.old)) log.new) ≡ R.Graph.triples right.now → length left_memory.old.reading.now ≡ length right_memory.old.reading.now → length left_memory.old.rows.now ≡ length right_memory.old.rows.now → Promise (account_of (since (emptied (length places.old)) log.new)) query.now.entries.now query.now.values.now start.now (length left_memory.old.reading.now) (length left_memory.old.rows.now) result.top_down result.bottom_up left_memory.new.rows.now right_memory.new.rows.now }
+    ensures agreed { Agreed (account_of (since (emptied (length places.old)) log.new)) (R.Graph.triples right.now) query.now.entries.now query.now.values.now start.now left_memory.old left_memory.new right_memory.old right_memory.new result }
 {
     let (_places, answers) = agree_and_give_back(
         places,

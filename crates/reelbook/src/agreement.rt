@@ -1,11 +1,8 @@
 // Graphs of different makes, with different calls behind them, that come to one set; and one that comes to another. The same question is put
 // top down to one and bottom up to the other, and the program prints what each answers and whether the answers agree.
-ghost use Rattle.std.specs.Prelude.{◌≡◌, length};
 ghost use Rattle.rdf.specs.Rows.{empty_row};
-ghost use Rattle.semantics.specs.declared.strategy.Strategy.TheVariants.{BottomUp, TopDown};
-ghost use Rattle.semantics.specs.Promise.{Promise};
 ghost use Rattle.history.specs.Courses.{account_of};
-ghost use Rattle.history.specs.Outcomes.{Outcome};
+ghost use Rattle.history.specs.Outcomes.{Agreed};
 
 use crate::calls::{BEFORE, correcting_calls, delivered, handed_over, joined_calls, layered_calls};
 use crate::printing::{print_answer, print_log};
@@ -89,9 +86,7 @@ fn ask_both<A: Opening, B: Opening>(
     right_memory: &mut Memory,
     query: &Query,
 ) -> Answers
-    ensures left { Outcome TopDown (account_of (A.Opening.course left left_log.new)) query.now.entries.now query.now.values.now empty_row left_memory.old left_memory.new result.top_down }
-    ensures right { Outcome BottomUp (account_of (B.Opening.course right right_log.new)) query.now.entries.now query.now.values.now empty_row right_memory.old right_memory.new result.bottom_up }
-    ensures promise { account_of (A.Opening.course left left_log.new) ≡ account_of (B.Opening.course right right_log.new) → length left_memory.old.reading.now ≡ length right_memory.old.reading.now → length left_memory.old.rows.now ≡ length right_memory.old.rows.now → Promise (account_of (A.Opening.course left left_log.new)) query.now.entries.now query.now.values.now empty_row (length left_memory.old.reading.now) (length left_memory.old.rows.now) result.top_down result.bottom_up left_memory.new.rows.now right_memory.new.rows.now }
+    ensures agreed { Agreed (account_of (A.Opening.course left left_log.new)) (account_of (B.Opening.course right right_log.new)) query.now.entries.now query.now.values.now empty_row left_memory.old left_memory.new right_memory.old right_memory.new result }
 {
     let mut left_none = Memory {
         reading: &mut [],

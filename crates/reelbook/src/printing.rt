@@ -1,7 +1,7 @@
 // Sets, answers to questions, and logs of calls, in print.
 use crate::questions::REEL;
-use crate::wording::{SentBack, Solution, Words};
-use history::step::{Answer, Call, Step};
+use crate::wording::{Counts, Logged, SentBack, Solution, Words};
+use history::step::Step;
 use rdf::refusal::Refusal;
 use rdf::row::Row;
 use rdf::triple::Triple;
@@ -31,8 +31,8 @@ pub(crate) fn print_answer(
     rows: &[Row],
 ) -> io::Result<()> {
     match answer {
-        Ok(Worked { count, largest }) => {
-            println!(rt; "  {count} found, largest working set {largest}:")?;
+        Ok(worked) => {
+            println!(rt; "  {}:", Counts(worked))?;
             print_solutions(rt, rows)
         }
         Err(refusal) => println!(rt; "  {}", SentBack(refusal)),
@@ -46,35 +46,10 @@ fn print_solutions(rt: &impl Print, rows: &[Row]) -> io::Result<()> {
     Ok(())
 }
 
-fn print_call(rt: &impl Print, call: &Call) -> io::Result<()> {
-    match *call {
-        Call::Next(after) => print!(rt; "  what follows ({}): ", Words(after)),
-        Call::Add(triple) => print!(rt; "  record ({}): ", Words(triple)),
-        Call::Remove(triple) => print!(rt; "  withdraw ({}): ", Words(triple)),
-        Call::Free => print!(rt; "  places free: "),
-        Call::Ask(_) => print!(rt; "  a question: "),
-    }
-}
-
-fn print_reply(rt: &impl Print, answer: Option<Result<Answer, Refusal>>) -> io::Result<()> {
-    match answer {
-        None => println!(rt; "not carried out"),
-        Some(Ok(Answer::Least(Some(triple)))) => println!(rt; "({})", Words(triple)),
-        Some(Ok(Answer::Least(None))) => println!(rt; "nothing"),
-        Some(Ok(Answer::Accepted)) => println!(rt; "accepted"),
-        Some(Ok(Answer::Places(free))) => println!(rt; "{free}"),
-        Some(Ok(Answer::Solved(Worked { count, largest }))) => {
-            println!(rt; "{count} found, largest working set {largest}")
-        }
-        Some(Err(refusal)) => println!(rt; "{}", SentBack(refusal)),
-    }
-}
-
 // Prints the calls of a log, and how each was answered.
 pub(crate) fn print_log(rt: &impl Print, log: &[Step]) -> io::Result<()> {
     for step in log {
-        print_call(rt, &step.call)?;
-        print_reply(rt, step.answer)?;
+        println!(rt; "  {}", Logged(*step))?;
     }
     Ok(())
 }

@@ -1,10 +1,12 @@
 // The mill's words for what is kept and asked.
 use crate::questions::{READING, REEL};
 use crate::request::{Effect, Request, Step};
+use history::step::{Answer, Call};
 use rdf::refusal::Refusal;
 use rdf::row::Row;
 use rdf::term::Term;
 use rdf::triple::Triple;
+use semantics::worked::Worked;
 use std::fmt;
 
 pub const WEIGHT: Term = Term(1);
@@ -38,6 +40,14 @@ pub struct Words(pub Triple);
 // A refusal in words.
 #[derive(Clone, Copy)]
 pub struct SentBack(pub Refusal);
+
+// The two numbers of an answered question in words.
+#[derive(Clone, Copy)]
+pub struct Counts(pub Worked);
+
+// A call of a log, with what it answered, in words.
+#[derive(Clone, Copy)]
+pub struct Logged<'a>(pub history::step::Step<'a>);
 
 // The word that stands for a term by itself.
 fn name(term: Term) -> Option<&'static str> {
@@ -133,6 +143,34 @@ impl fmt::Display for Step {
         match self.outcome {
             None => write!(f, "to be done"),
             Some(Ok(effect)) => write!(f, "{effect}"),
+            Some(Err(refusal)) => write!(f, "{}", SentBack(refusal)),
+        }
+    }
+}
+
+impl fmt::Display for Counts {
+    fn fmt<W: fmt::Write>(&self, f: &mut fmt::Formatter<W>) -> fmt::Result {
+        let Worked { count, largest } = self.0;
+        write!(f, "{count} found, largest working set {largest}")
+    }
+}
+
+impl<'a> fmt::Display for Logged<'a> {
+    fn fmt<W: fmt::Write>(&self, f: &mut fmt::Formatter<W>) -> fmt::Result {
+        match self.0.call {
+            Call::Next(after) => write!(f, "what follows ({}): ", Words(after))?,
+            Call::Add(triple) => write!(f, "record ({}): ", Words(triple))?,
+            Call::Remove(triple) => write!(f, "withdraw ({}): ", Words(triple))?,
+            Call::Free => write!(f, "places free: ")?,
+            Call::Ask(_) => write!(f, "a question: ")?,
+        }
+        match self.0.answer {
+            None => write!(f, "not carried out"),
+            Some(Ok(Answer::Least(Some(triple)))) => write!(f, "({})", Words(triple)),
+            Some(Ok(Answer::Least(None))) => write!(f, "nothing"),
+            Some(Ok(Answer::Accepted)) => write!(f, "accepted"),
+            Some(Ok(Answer::Places(free))) => write!(f, "{free}"),
+            Some(Ok(Answer::Solved(worked))) => write!(f, "{}", Counts(worked)),
             Some(Err(refusal)) => write!(f, "{}", SentBack(refusal)),
         }
     }

@@ -1,7 +1,15 @@
+use Rattle.std.proofs.Common.{rules}
 use Rattle.history.proofs.OutcomeLaws.{promised}
 use Rattle.history.proofs.compare.agree.Goals as goal
 
-pub returns-clause-promise : goal.returns-clause-promise
-returns-clause-promise g c =
+pub returns : goal.returns
+returns g c =
     let q = c.args.query.now in
-    promised q.entries.now q.values.now c.args.start.now _ _ _ _ _ _ _ _ _ _ _ _ (g.L.Graph.lawful c.args.left.now).members c.top_down.ensures c.bottom_up.ensures
+    record {
+      agreed =
+          record {
+            left = search rules;
+            right = search rules;
+            promise = promised q.entries.now q.values.now c.args.start.now _ _ _ _ _ _ _ _ _ _ _ _ (g.L.Graph.lawful c.args.left.now).members c.top_down.ensures c.bottom_up.ensures;
+          };
+    }
