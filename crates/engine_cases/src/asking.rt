@@ -93,7 +93,8 @@ fn print_answer(rt: &impl Print, answer: Result<Worked, Refusal>, rows: &[Row]) 
     }
 }
 
-fn join(sum: u32, term: Term) -> u32 {
+// A sum with one more term; the order of the terms counts.
+fn with_term(sum: u32, term: Term) -> u32 {
     sum.wrapping_mul(31).wrapping_add(term.0)
 }
 
@@ -101,14 +102,14 @@ fn join(sum: u32, term: Term) -> u32 {
 fn rows_sum(rows: &[Row]) -> u32 {
     rows.iter()
         .flat_map(|row| row.places.iter().copied())
-        .fold(0, join)
+        .fold(0, with_term)
 }
 
 fn reading_sum(reading: &[Triple]) -> u32 {
     reading
         .iter()
         .flat_map(|triple| [triple.subject, triple.predicate, triple.object].into_iter())
-        .fold(0, join)
+        .fold(0, with_term)
 }
 
 // Puts a question in memory that was used before.

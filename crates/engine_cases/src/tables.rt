@@ -14,8 +14,8 @@ fn chain(entries: &mut [Entry]) {
 
 // Each second entry is the UNION of the two before it.
 fn tower(entries: &mut [Entry]) {
-    for k in (2..entries.len()).step_by(2) {
-        entries[k] = Entry::Union(k - 2, k - 1);
+    for (before, entry) in entries.iter_mut().skip(2).enumerate().step_by(2) {
+        *entry = Entry::Union(before, before + 1);
     }
 }
 

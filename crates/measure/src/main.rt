@@ -63,12 +63,12 @@ struct Bench<'a> {
     rt: &'a HostRuntime,
     reading: &'a mut [Triple],
     rows: &'a mut [Row],
-    timed: bool,
+    with_times: bool,
 }
 
 impl Bench<'_> {
     fn print_time(&self, micros: u128) -> anyhow::Result<()> {
-        if self.timed {
+        if self.with_times {
             println!(self.rt; "    {micros} microseconds")?;
         }
         Ok(())
@@ -105,7 +105,7 @@ impl Bench<'_> {
     }
 }
 
-fn size(rt: &HostRuntime, reels: u32, printed: bool) -> anyhow::Result<()> {
+fn size(rt: &HostRuntime, reels: u32, with_times: bool) -> anyhow::Result<()> {
     let heap = rt.alloc();
     let many = reels as usize;
     let triples = many.saturating_mul(3);
@@ -115,14 +115,14 @@ fn size(rt: &HostRuntime, reels: u32, printed: bool) -> anyhow::Result<()> {
     println!(rt; "{triples} triples")?;
     let mut graph = StoredGraph::new(&mut places);
     let (_, micros) = timed(rt, || load_ascending(&mut graph, reels))?;
-    if printed {
+    if with_times {
         println!(rt; "  loaded in {micros} microseconds")?;
     }
     let mut bench = Bench {
         rt,
         reading: &mut reading,
         rows: &mut rows,
-        timed: printed,
+        with_times,
     };
     bench.read(&graph)?;
     bench.ask("no weight in grams", &graph, &unweighed())?;
@@ -148,9 +148,9 @@ fn unordered(rt: &HostRuntime, reels: u32) -> anyhow::Result<()> {
 }
 
 fn main(rt: HostRuntime) -> anyhow::Result<()> {
-    let printed = env::args(&rt)?.count() > 1;
+    let with_times = env::args(&rt)?.count() > 1;
     size(&rt, 20, false)?;
-    if printed {
+    if with_times {
         for reels in [333, 3333, 33333] {
             size(&rt, reels, true)?;
         }
