@@ -1,6 +1,6 @@
 // The lines of answers.
 ghost use Rattle.std.specs.Prelude.{◌≡◌};
-ghost use Rattle.stream.specs.Answers.{code_of, reading_sum, row_sum, with_number};
+ghost use Rattle.stream.specs.Answers.{code_of, reading_sum, row_sum, term_numbers, triple_numbers, with_number};
 
 use rdf::refusal::Refusal;
 use rdf::row::Row;
@@ -27,7 +27,7 @@ pub(crate) fn reading_sum(places: &[Triple]) -> u32
 {
     places
         .iter()
-        .flat_map(|place| [place.subject.0, place.predicate.0, place.object.0].into_iter())
+        .flat_map(|place| terms(place).into_iter().map(|term| term.0))
         .fold(0, with_number)
 }
 
@@ -60,7 +60,9 @@ pub(crate) fn write_change<W: Write>(
     writeln!(out, "1 {code} {free}")
 }
 
-fn terms(triple: &Triple) -> [Term; 3] {
+fn terms(triple: &Triple) -> [Term; 3]
+    ensures { term_numbers result ≡ triple_numbers triple.now }
+{
     [triple.subject, triple.predicate, triple.object]
 }
 

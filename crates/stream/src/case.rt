@@ -44,6 +44,7 @@ pub(crate) fn calls<G: EditableGraph, W: Write>(
 }
 
 // All triples of a graph, ascending.
+// Kept: tried `iter::successors`: `collect` asks for an end, which it does not promise, and the check breaks off at a `for` over it here.
 fn all_triples<G: Graph>(heap: Global, graph: &G) -> Result<Vec<Triple>, Cause>
     ensures { IfOk result (λ v. v.items ≡ G.triples graph.now) }
 {

@@ -54,10 +54,9 @@ fn numeral(text: &[u8]) -> Result<(u32, &[u8]), Cause>
         return Err(Cause::End);
     }
     let (digits, rest) = text.split_at(digits(text));
-    let mut value = 0;
-    for digit in digits {
-        value = with_digit(value, *digit)?;
-    }
+    let value = digits
+        .iter()
+        .try_fold(0, |value, digit| with_digit(value, *digit))?;
     Ok((value, rest))
 }
 
@@ -70,7 +69,7 @@ fn with_digit(value: u32, byte: u8) -> Result<u32, Cause>
         return Err(Cause::Byte(byte));
     }
     let next = value as u64 * 10 + (byte - b'0') as u64;
-    u32::try_from(next).map_err(|_| Cause::TooLarge)
+    Ok(u32::try_from(next)?)
 }
 
 impl<'a> Numbers<'a> {

@@ -53,6 +53,7 @@ impl Record for Variable {
 }
 
 // The variables whose bits are set.
+// Kept: tried `filter`, `map` and `fold`: `search` gave up, and after `fold_over` it found no fact of the calls of the closure in `filter`.
 fn variables_of(mask: u16) -> VariableSet
     ensures { (v : Variable) → in_set result v ≡ in_mask mask v }
 {
