@@ -1,6 +1,8 @@
 // Changes of a graph by one triple.
-ghost use Rattle.std.specs.Prelude.{◌≡◌, if◌then◌else◌, Ok, Err};
-ghost use Rattle.rdf.specs.Triples.{is_triple};
+ghost use Rattle.std.specs.Prelude.{◌≡◌, List, if◌then◌else◌, Ok, Err};
+ghost use Rattle.order.specs.Sets.{holds};
+ghost use Rattle.rdf.specs.Triples.{compare_triples, is_triple};
+ghost use Rattle.rdf.specs.declared.triple.Triple.{Triple as Three};
 ghost use Rattle.rdf.specs.declared.refusal.Refusal.TheVariants.{NotATriple};
 ghost use Rattle.graph.specs.Changes.{has_effect, triple_of};
 
@@ -25,18 +27,33 @@ impl Change {
         }
     }
 
+    // The triple, where its three numbers are one.
+    pub(crate) fn checked(self) -> Result<Triple, Refusal>
+        ensures { result ≡ (if is_triple (triple_of self) then Ok (triple_of self) else Err NotATriple) }
+    {
+        let triple = self.triple();
+        if triple.is_triple() {
+            Ok(triple)
+        } else {
+            Err(Refusal::NotATriple)
+        }
+    }
+
+    // Whether the change makes a set another one, by whether the set holds its triple.
+    pub(crate) fn alters(self, held: bool) -> bool
+        ensures { (s : List Three) → held ≡ holds compare_triples (triple_of self) s → result ≡ has_effect self s }
+    {
+        match self {
+            Change::Add(_) => !held,
+            Change::Remove(_) => held,
+        }
+    }
+
     // Whether the change makes the graph's set another one. It is refused where its three numbers are no triple.
     pub(crate) fn has_effect<G: Graph>(self, graph: &G) -> Result<bool, Refusal>
         ensures { result ≡ (if is_triple (triple_of self) then Ok (has_effect self (G.Graph.triples graph.now)) else Err NotATriple) }
     {
-        let triple = self.triple();
-        if !triple.is_triple() {
-            return Err(Refusal::NotATriple);
-        }
-        let held = contains(graph, triple);
-        Ok(match self {
-            Change::Add(_) => !held,
-            Change::Remove(_) => held,
-        })
+        let triple = self.checked()?;
+        Ok(self.alters(contains(graph, triple)))
     }
 }

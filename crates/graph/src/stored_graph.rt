@@ -1,11 +1,12 @@
 // A graph that is kept in lent places.
-ghost use Rattle.std.specs.Prelude.{◌≡◌, ◌-◌, true, false, length, replicate, refl};
+ghost use Rattle.std.specs.Prelude.{◌≡◌, ◌-◌, true, false, length, replicate, refl, if◌then◌else◌, Ok, Err};
 ghost use Rattle.std.proofs.Common.{◌∙◌};
 ghost use Rattle.order.specs.Lists.{every};
 ghost use Rattle.order.specs.OrderedLists.{Ordered, elements, spare};
 ghost use Rattle.order.specs.Sets.{above};
 ghost use Rattle.rdf.specs.Triples.{compare_triples, is_triple, no_triple};
-ghost use Rattle.graph.specs.Changes.{adding, after as leaves, alters, removing};
+ghost use Rattle.rdf.specs.declared.refusal.Refusal.TheVariants.{NotATriple};
+ghost use Rattle.graph.specs.Changes.{adding, after as leaves, alters, has_effect, removing, triple_of};
 ghost use Rattle.graph.specs.Calls.{Applied};
 ghost use Rattle.graph.specs.Histories.{account, emptied, make_of};
 ghost use Rattle.graph.specs.Makes.{no_room, stored};
@@ -49,6 +50,14 @@ impl<'a> StoredGraph<'a> {
         list.into_places()
     }
 
+    // Whether the change makes the set another one. The list looks at its last triple first, so what is added in order costs no search.
+    fn has_effect(&self, change: Change) -> Result<bool, Refusal>
+        ensures { result ≡ (if is_triple (triple_of change) then Ok (has_effect change (elements self.now.list)) else Err NotATriple) }
+    {
+        let triple = change.checked()?;
+        Ok(change.alters(self.list.contains(&triple)))
+    }
+
     // Makes a change, and empties the place that a removal leaves.
     fn change(&mut self, change: Change) -> Result<(), Refusal>
         ensures applied { Applied change (no_room (length self.old.list.places.now - length (elements self.old.list)) change) (elements self.old.list) (elements self.new.list) (length self.old.list.places.now - length (elements self.old.list)) (length self.new.list.places.now - length (elements self.new.list)) result }
@@ -57,7 +66,7 @@ impl<'a> StoredGraph<'a> {
         ensures same { self.new.list.places.ghost_name ≡ self.old.list.places.ghost_name }
         ensures places { self.new.list.places.now ≡ then_empty (leaves change result (elements self.old.list)) (length self.old.list.places.now) }
     {
-        if !change.has_effect(self)? {
+        if !self.has_effect(change)? {
             return Ok(());
         }
         match change {

@@ -37,7 +37,18 @@ pub fn lower_bound<T: TotalOrder + Copy>(places: &[T], x: &T) -> usize
             return places.len();
         }
     }
-    places.partition_point(|y| y.order(x).is_lt())
+    // Kept: tried `partition_point`: it takes other steps, so a slice that does not ascend gets another answer, and searching takes longer.
+    let mut low = 0;
+    let mut high = places.len();
+    while low < high {
+        let mid = low + (high - low) / 2;
+        if places[mid].order(x).is_lt() {
+            low = mid + 1;
+        } else {
+            high = mid;
+        }
+    }
+    low
 }
 
 // Writes `blank` into every place.

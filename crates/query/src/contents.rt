@@ -24,7 +24,9 @@ fn variables_in_range(entry: &Entry) -> bool
         Entry::Equal(x, y) => position_in_range(x) && position_in_range(y),
         Entry::Blank(x) => position_in_range(x),
         Entry::Bound(v) => v.is_in_range(),
-        _ => true,
+        Entry::Values { .. } | Entry::Initial | Entry::Select(_, _) | Entry::Filter(_, _) => true,
+        Entry::And(_, _) | Entry::Union(_, _) | Entry::Opt(_, _) | Entry::Minus(_, _) => true,
+        Entry::Not(_) | Entry::Both(_, _) | Entry::Either(_, _) | Entry::Exists(_) => true,
     }
 }
 
@@ -51,7 +53,13 @@ fn entry_positions_fit(entry: &Entry) -> bool
         Entry::Triple(s, p, o) => takes_identifier(s) && takes_identifier(p) && takes_constant(o),
         Entry::Equal(x, y) => takes_constant(x) && takes_constant(y),
         Entry::Blank(x) => takes_constant(x),
-        _ => true,
+        Entry::Values { .. } | Entry::Initial | Entry::Select(_, _) | Entry::Filter(_, _) => true,
+        Entry::And(_, _) | Entry::Union(_, _) | Entry::Opt(_, _) | Entry::Minus(_, _) => true,
+        Entry::Not(_)
+        | Entry::Both(_, _)
+        | Entry::Either(_, _)
+        | Entry::Exists(_)
+        | Entry::Bound(_) => true,
     }
 }
 
@@ -87,7 +95,10 @@ fn entry_values_fit(values: &[Row], entry: &Entry) -> bool
 {
     match *entry {
         Entry::Values { first, count } => span_fits(values, first, count),
-        _ => true,
+        Entry::Triple(_, _, _) | Entry::Initial | Entry::Select(_, _) | Entry::Filter(_, _) => true,
+        Entry::And(_, _) | Entry::Union(_, _) | Entry::Opt(_, _) | Entry::Minus(_, _) => true,
+        Entry::Equal(_, _) | Entry::Blank(_) | Entry::Bound(_) => true,
+        Entry::Not(_) | Entry::Both(_, _) | Entry::Either(_, _) | Entry::Exists(_) => true,
     }
 }
 
