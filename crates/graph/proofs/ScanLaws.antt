@@ -40,8 +40,6 @@ scan_more a best e es =
         ∙ lesser_assoc triple_laws best (above compare_triples a (e ∷ [])) rest
 
 -- the least of the triples above a, one after the other
-pub fold_scan : (a : Triple) (best : Option Triple) (es : List Triple) → fold (λ b e. lesser compare_triples b (Some e)) best (filter (λ e. is_triple e && is_lt (compare_triples a e)) es) ≡ scan a best es
+pub fold_scan : (a : Triple) (best : Option Triple) (es : List Triple) → fold (nearer a) best es ≡ scan a best es
 fold_scan a best [] = sym (scan_end a best)
-fold_scan a best (e ∷ es) =
-    by_bool (is_triple e && is_lt (compare_triples a e)) (λ h. rw h (fold_scan a (lesser compare_triples best (Some e)) es)) (λ h. rw h (fold_scan a best es))
-    ∙ sym (scan_more a best e es)
+fold_scan a best (e ∷ es) = fold_scan a (nearer a best e) es ∙ sym (scan_more a best e es)

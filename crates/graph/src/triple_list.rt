@@ -1,5 +1,5 @@
 // A graph that is lent as a list, for reading only.
-ghost use Rattle.std.specs.Prelude.{◌≡◌, true, ◌&&◌, Some, None, filter, fold, refl};
+ghost use Rattle.std.specs.Prelude.{◌≡◌, true, ◌&&◌, if◌then◌else◌, Some, None, fold, refl};
 ghost use Rattle.std.specs.Ordering.{is_lt};
 ghost use Rattle.order.specs.Sets.{lesser};
 ghost use Rattle.rdf.specs.Triples.{compare_triples, is_triple};
@@ -17,6 +17,18 @@ pub struct TripleList<'a> {
     entries: &'a [Triple],
 }
 
+// The better of the best so far and a candidate, which counts if it is a triple above `after`.
+// Kept: tried as a `filter` before the fold, which searches the entries up to twice as long.
+fn nearer(after: Triple, best: Option<Triple>, candidate: Triple) -> Option<Triple>
+    ensures { result ≡ (if is_triple candidate && is_lt (compare_triples after candidate) then lesser compare_triples best (Some candidate) else best) }
+{
+    if candidate.is_triple() && after.order(&candidate).is_lt() {
+        lesser_of(best, Some(candidate))
+    } else {
+        best
+    }
+}
+
 impl<'a> TripleList<'a> {
     pub fn new(entries: &'a [Triple]) -> Self
         ensures kept { result.entries.now ≡ entries.now }
@@ -28,13 +40,11 @@ impl<'a> TripleList<'a> {
 
     // The least of the entries that are triples above `after`.
     fn least_above(&self, after: Triple) -> Option<Triple>
-        ensures { result ≡ fold (λ best entry. lesser compare_triples best (Some entry)) None (filter (λ entry. is_triple entry && is_lt (compare_triples after entry)) self.now.entries.now) }
+        ensures { result ≡ fold (λ best entry. if is_triple entry && is_lt (compare_triples after entry) then lesser compare_triples best (Some entry) else best) None self.now.entries.now }
     {
         self.entries
             .iter()
-            .copied()
-            .filter(|entry| entry.is_triple() && after.order(entry).is_lt())
-            .fold(None, |best, entry| lesser_of(best, Some(entry)))
+            .fold(None, |best, entry| nearer(after, best, *entry))
     }
 }
 

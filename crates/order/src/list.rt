@@ -1,5 +1,6 @@
 // A set in ascending order, in a slice that is lent to it.
-ghost use Rattle.std.specs.Prelude.{◌≡◌, ◌≤◌, length, replicate};
+ghost use Rattle.std.specs.Prelude.{◌≡◌, ◌+◌, ◌<◌, ◌≤◌, length, replicate};
+ghost use Rattle.std.specs.List.{copy_within};
 ghost use Rattle.order.specs.Sets.{Ascending, rank as place};
 
 use crate::total::TotalOrder;
@@ -49,6 +50,16 @@ pub fn lower_bound<T: TotalOrder + Copy>(places: &[T], x: &T) -> usize
         }
     }
     low
+}
+
+// Moves the elements from `at` up to `len` one place up. Where there are none, as when the list grows at its end, it costs one comparison.
+fn raise<T: Copy>(places: &mut [T], at: usize, len: usize)
+    requires { (at ≤ len) × (len < length places.old) }
+    ensures { places.new ≡ copy_within places.old at len (at + 1) }
+{
+    if at < len {
+        places.copy_within(at..len, at + 1);
+    }
 }
 
 // Writes `blank` into every place.

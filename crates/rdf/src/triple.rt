@@ -41,9 +41,13 @@ impl TotalOrder for Triple {
     ghost lawful = { triple_laws };
 
     fn order(&self, other: &Triple) -> Ordering {
-        self.subject
-            .order(&other.subject)
-            .then_with(|| self.predicate.order(&other.predicate))
-            .then_with(|| self.object.order(&other.object))
+        // Kept: tried as one chain: where subjects differ, as they mostly do, it costs half as much again as this branch.
+        match self.subject.order(&other.subject) {
+            Ordering::Equal => self
+                .predicate
+                .order(&other.predicate)
+                .then_with(|| self.object.order(&other.object)),
+            unequal => unequal,
+        }
     }
 }

@@ -5,7 +5,7 @@ ghost use Rattle.std.specs.List.Sorted.{IsSearchInRange};
 ghost use Rattle.order.specs.Sets.{Ascending, above as next, IsAbove, located, holds, rank as place};
 ghost use Rattle.order.specs.OrderedLists.{Enters, Leaves, Ordered, Puts, TakesOut, elements, spare};
 
-use super::{Insertion, OrderedList, fill, lower_bound};
+use super::{Insertion, OrderedList, fill, lower_bound, raise};
 use crate::total::TotalOrder;
 
 impl<'a, T: TotalOrder + Copy> OrderedList<'a, T> {
@@ -131,7 +131,7 @@ impl<'a, T: TotalOrder + Copy> OrderedList<'a, T> {
         if self.len == self.places.len() {
             return Insertion::Full;
         }
-        self.places.copy_within(at..self.len, at + 1);
+        raise(self.places, at, self.len);
         self.places[at] = x;
         self.len += 1;
         Insertion::Made

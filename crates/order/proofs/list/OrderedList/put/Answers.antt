@@ -17,7 +17,7 @@ returns g c =
     let at = c.in-Err.at in
     let within = c.in-Err.ensures.within in
     let spare = length-drop l.len l.places.now in
-    let after = entering l.places.now c.copy_within.new.self l.len at c.args.x (omega arith) (omega arith) c.copy_within.ensures.after in
+    let after = entering l.places.now c.raise.new.places l.len at c.args.x (omega arith) (omega arith) c.raise.ensures in
     let inserted = λ (h : Ordered g.T.TotalOrder.compare l). after.0 ∙ inserting laws xs at c.args.x (c.in-Err.ensures.located h) in
     record {
       same = refl;
