@@ -2,6 +2,7 @@
 pub mod AppliedLaws
 pub mod EqualLaws
 pub mod LookupLaws
+pub mod MarkLaws
 pub mod OverlayLaws
 pub mod ReadingLaws
 pub mod ScanLaws

@@ -94,6 +94,7 @@ impl Marks {
     }
 
     // Turns the mark of a triple: off where it is on, on where it is off and there is a place for it.
+    #[tactic(auto, using(crate::proofs::MarkLaws::put_on, crate::proofs::MarkLaws::taken_off))]
     pub(crate) fn turn(&mut self, triple: Triple) -> Result<(), Refusal>
         requires { is_triple triple ≡ true }
         ensures answer { result ≡ (if no_mark self.old triple then Err NoPlace else Ok tt) }

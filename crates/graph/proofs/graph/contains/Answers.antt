@@ -1,5 +1,7 @@
 -- Shows that `contains` tells by one look whether the triple is a member.
-use Rattle.std.proofs.Common.{◌≡◌, ◌∙◌, arith}
+use Rattle.std.proofs.Common.{◌≡◌, Some, ◌∙◌, rules, arith}
+use Rattle.std.specs.Option.{option_eq}
+use Rattle.rdf.specs.contracts.triple.TriplePartialEq.TheImpl.{ghosts as triples}
 use Rattle.graph.proofs.LookupLaws.{absent_without_object, next_is_member}
 use Rattle.graph.proofs.graph.contains.Goals as goal
 
@@ -12,4 +14,5 @@ pub returns : goal.returns
 returns g c =
     let set = g.G.Graph.lawful c.args.graph.now in
     let told = next_is_member c.args.triple _ set.ascending (omega (arith, c.in-Some.ensures)) in
-    c.eq.ensures ∙ rw (c.next.ensures, c.in-Some.ensures.1) told
+    let equal : c.eq.result ≡ option_eq triples.eq c.next.result (Some c.args.triple) = search rules in
+    equal ∙ rw (c.next.ensures, c.in-Some.ensures.1) told
