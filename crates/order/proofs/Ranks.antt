@@ -4,7 +4,6 @@ use Rattle.std.proofs.Common.{◌≡◌, ℕ, zero, suc, ◌+◌, ◌-◌, ◌<�
 use Rattle.std.proofs.lemmas.Option.{get_or_from_slice_get, slice_get_within}
 use Rattle.std.specs.Ordering.{is_lt, is_eq, is_le}
 use Rattle.std.specs.List.{insert as inserted, remove, slice_get}
-use Rattle.std.specs.List.Sorted.{IsPartitionedBy, IsPartitionPoint}
 use Rattle.order.specs.Order.{Laws}
 use Rattle.order.specs.Sets.{Ascending, holds, insert, without, above, rank, located}
 use Rattle.order.proofs.Ascents.{above_first, ascending_first, ascending_rest, holds_not_below, holds_not_under, under_get_or, without_absent}
@@ -40,22 +39,6 @@ module _ {X : Type 0} {cmp : X → X → Ordering} (laws : Laws cmp) where
       let last = get_or_from_slice_get xs (length xs - 1) y y e in
       let past = rank_past x y xs (length xs - 1) h (slice_get_within xs (length xs - 1) y e) (ap (λ v. cmp v x) last ∙ less_from_test _ b) in
       omega (arith, rank_le x xs)
-
-  -- the elements below x come before the others, and the first of the others is at the place of x
-  pub below_first : (x : X) (xs : List X) → Ascending cmp xs → IsPartitionedBy (λ y. is_lt (cmp y x)) xs
-  below_first x [] h i j d le l e = absurd (omega arith)
-  below_first x (y ∷ ys) h zero zero d le l e = e
-  below_first x (y ∷ ys) h zero (suc j) d le l e =
-      ap is_lt (laws.trans y (get_or ys j d) x (under_get_or laws y d ys j (ascending_first laws y ys h) (omega arith)) (less_from_test _ e))
-  below_first x (y ∷ ys) h (suc i) zero d le l e = absurd (omega arith)
-  below_first x (y ∷ ys) h (suc i) (suc j) d le l e = below_first x ys (ascending_rest laws y ys h) i j d (omega arith) (omega arith) e
-
-  pub rank_parts : (x : X) (xs : List X) (i : ℕ) → i ≤ length xs → IsPartitionPoint (λ y. is_lt (cmp y x) ≡ true) (λ y. is_lt (cmp y x) ≡ false) xs i → i ≡ rank cmp x xs
-  rank_parts x [] i l p = omega arith
-  rank_parts x (y ∷ ys) zero l p = rw (p.1 0 y (omega arith) (omega arith))
-  rank_parts x (y ∷ ys) (suc i) l p =
-      rw (p.0 0 y (omega arith) (omega arith))
-      (ap suc (rank_parts x ys i (omega arith) (λ k d a b. p.0 (suc k) d (omega arith) (omega arith), λ k d a b. p.1 (suc k) d (omega arith) (omega arith))))
 
   -- where x stands or belongs is told by the element at its place, or by there being none
   pub located_here : (x y : X) (xs : List X) (at : ℕ) (b : Bool) → Ascending cmp xs → at ≡ rank cmp x xs → at < length xs → y ≡ get_or xs at y → is_eq (cmp y x) ≡ b → cond b (Ok at) (Err at) ≡ located cmp x xs
