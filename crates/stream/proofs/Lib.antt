@@ -1,3 +1,4 @@
 -- The lemmas of this crate.
 mod Collecting
 mod Lexing
+mod Summing

@@ -1,6 +1,6 @@
 // The lines of answers.
 ghost use Rattle.std.specs.Prelude.{◌≡◌};
-ghost use Rattle.stream.specs.Answers.{code_of, reading_sum, row_sum, term_numbers, triple_numbers, with_number};
+ghost use Rattle.stream.specs.Answers.{code_of, reading_sum, row_sum, sum_with, term_numbers, triple_numbers, with_number};
 
 use rdf::refusal::Refusal;
 use rdf::row::Row;
@@ -8,8 +8,8 @@ use rdf::term::Term;
 use rdf::triple::Triple;
 use semantics::strategy::Strategy;
 use semantics::worked::Worked;
+use std::io;
 use std::io::Write;
-use std::{fmt, io};
 
 // The largest prime below 2^32.
 const MODULUS: u64 = 4294967291;
@@ -21,23 +21,27 @@ fn with_number(sum: u32, number: u32) -> u32
     ((sum as u64 * 31 + number as u64) % MODULUS) as u32
 }
 
+// A sum with the numbers of some terms.
+fn with_terms(sum: u32, terms: &[Term]) -> u32
+    ensures { result ≡ sum_with sum (term_numbers terms.now) }
+{
+    terms.iter().map(|term| term.0).fold(sum, with_number)
+}
+
 // The sum of memory for reading, place by place.
 pub(crate) fn reading_sum(places: &[Triple]) -> u32
     ensures { result ≡ reading_sum places.now }
 {
     places
         .iter()
-        .flat_map(|place| terms(place).into_iter().map(|term| term.0))
-        .fold(0, with_number)
+        .fold(0, |sum, place| with_terms(sum, &terms(place)))
 }
 
 // The sum of memory for rows, place by place.
 pub(crate) fn row_sum(rows: &[Row]) -> u32
     ensures { result ≡ row_sum rows.now }
 {
-    rows.iter()
-        .flat_map(|row| row.places.iter().map(|term| term.0))
-        .fold(0, with_number)
+    rows.iter().fold(0, |sum, row| with_terms(sum, &row.places))
 }
 
 // 0, or the refusal's number.
@@ -66,25 +70,22 @@ fn terms(triple: &Triple) -> [Term; 3]
     [triple.subject, triple.predicate, triple.object]
 }
 
-// The numbers of some terms, each after a blank.
-#[derive(Drop)]
-struct Numbered<'a>(&'a [Term]);
-
-impl fmt::Display for Numbered<'_> {
-    fn fmt<W: fmt::Write>(&self, f: &mut fmt::Formatter<W>) -> fmt::Result {
-        for term in self.0 {
-            write!(f, " {}", term.0)?;
-        }
-        Ok(())
-    }
+// Kept: tried a `Display` of the terms, and one function that writes the terms of a slice; rows then took 1.31 and 1.24 times as many instructions.
+fn write_triple<W: Write>(out: &mut W, triple: &Triple) -> io::Result<()> {
+    let [Term(s), Term(p), Term(o)] = terms(triple);
+    write!(out, " {s} {p} {o}")
 }
 
 // The triple that was found.
 pub(crate) fn write_next<W: Write>(out: &mut W, found: Option<Triple>) -> io::Result<()> {
     match found {
-        Some(triple) => writeln!(out, "2 1{}", Numbered(&terms(&triple))),
-        None => writeln!(out, "2 0 0 0 0"),
+        Some(triple) => {
+            write!(out, "2 1")?;
+            write_triple(out, &triple)?;
+        }
+        None => write!(out, "2 0 0 0 0")?,
     }
+    writeln!(out)
 }
 
 // A whole set.
@@ -92,7 +93,15 @@ pub(crate) fn write_set<W: Write>(out: &mut W, triples: &[Triple]) -> io::Result
     let count = triples.len();
     write!(out, "3 {count}")?;
     for triple in triples {
-        write!(out, "{}", Numbered(&terms(triple)))?;
+        write_triple(out, triple)?;
+    }
+    writeln!(out)
+}
+
+fn write_row<W: Write>(out: &mut W, row: &Row) -> io::Result<()> {
+    write!(out, "5")?;
+    for term in &row.places {
+        write!(out, " {}", term.0)?;
     }
     writeln!(out)
 }
@@ -126,7 +135,7 @@ pub(crate) fn write_answer<W: Write>(
     let sum = row_sum(rows);
     writeln!(out, "4 {way} {code} {count} {largest} {reading} {sum}")?;
     for row in rows.iter().take(count) {
-        writeln!(out, "5{}", Numbered(&row.places))?;
+        write_row(out, row)?;
     }
     Ok(())
 }

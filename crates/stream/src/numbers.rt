@@ -1,5 +1,5 @@
 // Numbers in a text, between blanks and line feeds.
-ghost use Rattle.std.specs.Prelude.{◌≡◌, IfOk, if◌then◌else◌, Ok, Err, OnOk, length, not};
+ghost use Rattle.std.specs.Prelude.{◌≡◌, IfOk, if◌then◌else◌, Ok, Err, OnOk, length};
 ghost use Rattle.std.specs.List.{take_while};
 ghost use Rattle.order.specs.Lists.{is_empty};
 ghost use Rattle.stream.specs.declared.fault.Cause.TheVariants.{Rest};
@@ -30,13 +30,6 @@ fn blanks(text: &[u8]) -> usize
     text.iter().take_while(|byte| is_blank(**byte)).count()
 }
 
-// How many other bytes it begins with.
-fn digits(text: &[u8]) -> usize
-    ensures { result ≡ length (take_while (λ b. not (is_blank b)) text.now) }
-{
-    text.iter().take_while(|byte| !is_blank(**byte)).count()
-}
-
 // The text from its first byte on that is no blank.
 #[tactic(auto, using(crate::proofs::Lexing::after_cut))]
 fn after_blanks(text: &[u8]) -> &[u8]
@@ -46,6 +39,7 @@ fn after_blanks(text: &[u8]) -> &[u8]
 }
 
 // The number that begins a text, and what follows it.
+// Kept: tried to count the digits and fold over them; a long word whose fault stands early was then gone over whole, at seven times the instructions.
 fn numeral(text: &[u8]) -> Result<(u32, &[u8]), Cause>
     ensures value { read_value result ≡ numeral text.now }
     ensures rest { IfOk result (λ read. read.1.now ≡ after_numeral text.now) }
@@ -53,10 +47,15 @@ fn numeral(text: &[u8]) -> Result<(u32, &[u8]), Cause>
     if text.is_empty() {
         return Err(Cause::End);
     }
-    let (digits, rest) = text.split_at(digits(text));
-    let value = digits
-        .iter()
-        .try_fold(0, |value, digit| with_digit(value, *digit))?;
+    let mut value = 0;
+    let mut rest = text;
+    while let Some((byte, after)) = rest.split_first() {
+        if is_blank(*byte) {
+            break;
+        }
+        value = with_digit(value, *byte)?;
+        rest = after;
+    }
     Ok((value, rest))
 }
 
@@ -124,14 +123,21 @@ impl<'a> Numbers<'a> {
     }
 
     // Where the last number that was asked for stands.
+    // Kept: tried two passes, and a fold over the line, the number and whether a blank stood before; over blanks they took 1.4 times the instructions and up to 1.9 times the time.
     pub(crate) fn place(&self) -> Place {
         let passed = &self.text[..self.text.len().saturating_sub(self.due.len())];
-        let line_feeds = passed.iter().filter(|byte| **byte == b'\n').count();
-        let words = passed.split(|byte| is_blank(*byte));
-        let numbers = words.filter(|word| !word.is_empty()).count();
-        Place {
-            line: line_feeds.saturating_add(1),
-            number: numbers.saturating_add(1),
+        let mut place = Place { line: 1, number: 1 };
+        let mut blank_before = true;
+        for byte in passed {
+            let blank = is_blank(*byte);
+            if *byte == b'\n' {
+                place.line = place.line.saturating_add(1);
+            }
+            if blank_before && !blank {
+                place.number = place.number.saturating_add(1);
+            }
+            blank_before = blank;
         }
+        place
     }
 }
