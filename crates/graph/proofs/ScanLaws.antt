@@ -1,6 +1,7 @@
 -- Shows that a scan over the entries of a list, with the best so far, ends at the least triple above the given numbers.
-use Rattle.std.proofs.Common.{◌≡◌, cond, ◌&&◌, List, [], ◌∷◌, Some, filter, Option, sym, ap, ◌∙◌}
-use Rattle.std.specs.List.{fold}
+use Rattle.std.proofs.Common.{◌≡◌, true, false, cond, ◌&&◌, not, List, [], ◌∷◌, None, Some, filter, drop, Option, ℕ, suc, ◌+◌, refl, sym, ap, ◌∙◌}
+use native.Mathlib.Omega.{arith}
+use Rattle.std.specs.List.{fold, prefix_len}
 use Rattle.std.specs.Ordering.{is_lt}
 use Rattle.order.specs.Sets.{above, insert, lesser}
 use Rattle.order.proofs.Ascents.{ascending_ascend}
@@ -43,3 +44,29 @@ scan_more a best e es =
 pub fold_scan : (a : Triple) (best : Option Triple) (es : List Triple) → fold (nearer a) best es ≡ scan a best es
 fold_scan a best [] = sym (scan_end a best)
 fold_scan a best (e ∷ es) = fold_scan a (nearer a best e) es ∙ sym (scan_more a best e es)
+
+drop_more : (n : ℕ) (e : Triple) (es : List Triple) → drop (1 + n) (e ∷ es) ≡ drop n es
+drop_more n e es = ap (λ k. drop k (e ∷ es)) after
+  where
+    after : 1 + n ≡ suc n
+    after = omega arith
+
+-- the entries before the first that counts leave the scan as it begins
+pub fold_passed : (a : Triple) (es : List Triple) → fold (nearer a) None (drop (prefix_len (λ e. not (is_triple e && is_lt (compare_triples a e))) es) es) ≡ fold (nearer a) None es
+fold_passed a [] = refl
+fold_passed a (e ∷ es) =
+    by_bool (is_triple e && is_lt (compare_triples a e))
+    (λ h. ap (fold (nearer a) None) (first h))
+    (λ h. ap (fold (nearer a) None) (passed h) ∙ fold_passed a es ∙ ap (λ o. fold (nearer a) o es) (still h))
+  where
+    rest : List Triple → List Triple
+    rest fs = drop (prefix_len (λ f. not (is_triple f && is_lt (compare_triples a f))) fs) fs
+
+    first : (is_triple e && is_lt (compare_triples a e)) ≡ true → rest (e ∷ es) ≡ e ∷ es
+    first h = rw h refl
+
+    passed : (is_triple e && is_lt (compare_triples a e)) ≡ false → rest (e ∷ es) ≡ rest es
+    passed h = rw h (drop_more (prefix_len (λ f. not (is_triple f && is_lt (compare_triples a f))) es) e es)
+
+    still : (is_triple e && is_lt (compare_triples a e)) ≡ false → None ≡ nearer a None e
+    still h = rw h refl

@@ -41,8 +41,8 @@ impl TotalOrder for Triple {
     ghost lawful = { triple_laws };
 
     fn order(&self, other: &Triple) -> Ordering {
-        // Kept: tried as a chain of `then_with`, whole and for the last two: searching a graph then takes half as long again, and filling it in order
-        // three quarters.
+        // Kept: tried with the last two parts as a chain of `then_with`. Filling a graph with triples that differ in the object alone then takes 1.25 times
+        // the instructions, and took 1.05 times as long in one series and 1.77 times in another.
         match self.subject.order(&other.subject) {
             Ordering::Equal => match self.predicate.order(&other.predicate) {
                 Ordering::Equal => self.object.order(&other.object),

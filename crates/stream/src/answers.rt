@@ -70,7 +70,8 @@ fn terms(triple: &Triple) -> [Term; 3]
     [triple.subject, triple.predicate, triple.object]
 }
 
-// Kept: tried a `Display` of the terms, and one function that writes the terms of a slice; rows then took 1.31 and 1.24 times as many instructions.
+// Kept: tried a `Display` of the terms, by which a line went out in other pieces, and one function that writes the terms of a slice, by which many rows
+// took up to 1.3 times as long.
 fn write_triple<W: Write>(out: &mut W, triple: &Triple) -> io::Result<()> {
     let [Term(s), Term(p), Term(o)] = terms(triple);
     write!(out, " {s} {p} {o}")
